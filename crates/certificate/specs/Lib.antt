@@ -2,6 +2,8 @@ pub mod Numbers
 pub mod Bytes
 pub mod Asked
 pub mod Layout
-pub mod Fields
+pub mod Rules
 pub mod Strengths
 pub mod Reading
+pub mod Content
+pub mod Ranges

@@ -1,9 +1,11 @@
 -- What is asked of a certificate, question by question.
 use mathlib.Core.List.{List, _++_}
 use Prim.Native.Nat.{ℕ}
-use Rattle.certificate.specs.Asked.{Asked}
+use Rattle.std.specs.declared.result.Result.{Result}
+use Rattle.certificate.specs.Asked.{Asked, first-no}
+use Rattle.certificate.specs.declared.fault.CertificateFault.{CertificateFault}
 use Rattle.certificate.specs.Layout.{offset, section-of, header-asked, layout-asked}
-use Rattle.certificate.specs.Fields.{fields-asked, geometry-rules, resistance-rules, ratios-asked}
+use Rattle.certificate.specs.Rules.{fields-asked, geometry-rules, resistance-rules, ratios-asked}
 use Rattle.certificate.specs.Strengths.{list-asked}
 use Rattle.certificate.specs.declared.layout.Section.the-variants.{Geometry, Resistance, Cracked, Uncracked}
 
@@ -22,3 +24,7 @@ strengths-asked bs =
 -- questions 1 to 4
 abbrev pub certificate-asked : List ℕ → Asked
 certificate-asked bs = header-asked bs ++ (layout-asked bs ++ (numbers-asked bs ++ strengths-asked bs))
+
+-- the answer to all of them: the first no is the refusal
+unfoldable pub refusal : List ℕ → Result Unit CertificateFault
+refusal bs = first-no (certificate-asked bs)

@@ -4,10 +4,7 @@ ghost use Prim.Native.Nat.{_≤_};
 ghost use lib.ListN.{getD};
 ghost use Rattle.certificate.specs.Bytes.{u16-at, u32-at};
 
-// No place in a certificate lies further on.
-pub const PLACE_LIMIT: usize = 1_000_000;
-
-fn byte_at(bytes: &[u8], at: usize) -> u8
+pub(crate) fn byte_at(bytes: &[u8], at: usize) -> u8
     ensures { λ r. ⌜ r ≡ getD (now (bytes .entry)) at 0 ⌝ }
 {
     if at < bytes.len() { bytes[at] } else { 0 }

@@ -2,10 +2,14 @@
 // string is either read in place, every number in its range, or refused by the first question that it fails, with the
 // byte where the failing pair or field begins; that what is written reads back as the same numbers; and that a refusal
 // leaves the caller's buffer untouched.
-pub mod asking;
-pub mod bytes;
+mod asking;
+mod bytes;
+pub mod certificate;
+mod decode;
 pub mod fault;
 pub mod fields;
 pub mod layout;
 pub mod part;
+mod rules;
 pub mod strengths;
+mod tables;

@@ -5,8 +5,8 @@ use Rattle.std.specs.declared.result.Result.the-variants.{Ok, Err}
 use Rattle.std.proofs.shelf.Results.{err-from-errBy}
 use Rattle.certificate.specs.Asked.{Asked, first-no}
 use Rattle.certificate.specs.Layout.{offset, section-of}
-use Rattle.certificate.specs.Fields.{fields-asked, geometry-rules, resistance-rules, ratios-asked}
-use Rattle.certificate.specs.declared.fields.FieldRule.{FieldRule}
+use Rattle.certificate.specs.Rules.{fields-asked, geometry-rules, resistance-rules, ratios-asked}
+use Rattle.certificate.specs.declared.rules.FieldRule.{FieldRule}
 use Rattle.certificate.specs.declared.layout.Section.the-variants.{Geometry, Resistance}
 use Rattle.certificate.proofs.Firsts.{first-no-then, first-no-stop}
 use Rattle.certificate.proofs.asking.ask_numbers.Needs as need

@@ -1,8 +1,8 @@
 use mathlib.Core.Path.{_≡_}
 use lib.ListN.{drop}
 use Rattle.certificate.specs.Asked.{first-no}
-use Rattle.certificate.specs.Fields.{fields-asked}
-use Rattle.certificate.proofs.fields.ask_fields.Given as given
+use Rattle.certificate.specs.Rules.{fields-asked}
+use Rattle.certificate.proofs.rules.ask_fields.Given as given
 
 abbrev pub Inv-loop-rule : given.InvT-loop-rule
 Inv-loop-rule l =

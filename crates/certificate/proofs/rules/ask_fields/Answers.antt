@@ -2,10 +2,10 @@ use mathlib.Core.Path.{_≡_, sym, ap, _∙_}
 use lib.ListN.{getD}
 use Rattle.std.proofs.shelf.Tests.{cond-true, cond-false}
 use Rattle.certificate.specs.Asked.{Asked}
-use Rattle.certificate.specs.Fields.{field-asked, allowed, two}
-use Rattle.certificate.specs.declared.fields.FieldRule.{FieldRule}
+use Rattle.certificate.specs.Rules.{field-asked, allowed, two}
+use Rattle.certificate.specs.declared.rules.FieldRule.{FieldRule}
 use Rattle.certificate.proofs.Firsts.{asked-more, asked-stop, asked-all}
-use Rattle.certificate.proofs.fields.ask_fields.Needs as need
+use Rattle.certificate.proofs.rules.ask_fields.Needs as need
 
 pub returns-then-not-allows : need.returns-then-not-allows
 returns-then-not-allows c =

@@ -9,9 +9,9 @@ use Rattle.std.specs.Joined.{joined}
 use Rattle.certificate.specs.Bytes.{u16-at, u32-at}
 use Rattle.certificate.specs.Asked.{Asked, fault}
 use Rattle.certificate.specs.declared.fault.Question.the-variants.{Range}
-use Rattle.certificate.specs.declared.fields.Width.{Width}
-use Rattle.certificate.specs.declared.fields.Width.the-variants.{Two, Four}
-use Rattle.certificate.specs.declared.fields.FieldRule.{FieldRule}
+use Rattle.certificate.specs.declared.rules.Width.{Width}
+use Rattle.certificate.specs.declared.rules.Width.the-variants.{Two, Four}
+use Rattle.certificate.specs.declared.rules.FieldRule.{FieldRule}
 
 abbrev pub number-at : Width → List ℕ → ℕ → ℕ
 number-at Two bs i = u16-at bs i
