@@ -33,8 +33,8 @@ between least most n h =
 between-or-zero : (least most n : ℕ) → allowed (four-or-zero 0 least most) n ≡ true → Between least most n ⊎ (n ≡ 0)
 between-or-zero least most n h =
     elim (or-cases (leb least n && leb n most) (true && eqb n 0) h) [
-      inl p ↦ let q = and-parts (leb least n) (leb n most) p in inl (record { from = leb-true least n (q .0); to = leb-true n most (q .1) })
-    | inr p ↦ inr (eqb-true n 0 p)
+      | inl p ↦ let q = and-parts (leb least n) (leb n most) p in inl (record { from = leb-true least n (q .0); to = leb-true n most (q .1) })
+      | inr p ↦ inr (eqb-true n 0 p)
     ]
 
 -- the questions on the numbers were all answered yes

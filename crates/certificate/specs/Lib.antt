@@ -7,3 +7,4 @@ pub mod Strengths
 pub mod Reading
 pub mod Content
 pub mod Ranges
+pub mod Lookup

@@ -38,7 +38,11 @@ impl<'a> Certificate<'a> {
     pub fn edition(&self) -> Edition
         ensures { λ r. ⌜ r ≡ edition-of (now (now (self .entry) .bytes)) ⌝ }
     {
-        if byte_at(self.bytes, 0) == 1 { Edition::First } else { Edition::Second }
+        if byte_at(self.bytes, 0) == 1 {
+            Edition::First
+        } else {
+            Edition::Second
+        }
     }
 
     // A section as a part of the caller's bytes, with its place among them.
