@@ -11,12 +11,19 @@ use Rattle.std.specs.declared.option.Option.the-variants.{Some, None}
 use Rattle.certificate.specs.Strengths.{strength-at}
 use Rattle.certificate.specs.Content.{entry-at}
 use Rattle.certificate.specs.declared.fields.StrengthFactor.{StrengthFactor}
+use Rattle.certificate.specs.declared.layout.Section.{Section}
+use Rattle.certificate.specs.declared.layout.Section.the-variants as section
 use Rattle.certificate.specs.declared.lookup.Concrete.{Concrete}
 use Rattle.certificate.specs.declared.lookup.Concrete.the-variants.{Cracked, Uncracked}
 
 abbrev pub chosen-list : List ℕ → List ℕ → Concrete → List ℕ
 chosen-list cracked uncracked Cracked = cracked
 chosen-list cracked uncracked Uncracked = uncracked
+
+-- the section that holds the list
+abbrev pub list-section : Concrete → Section
+list-section Cracked = section.Cracked
+list-section Uncracked = section.Uncracked
 
 -- the k-th entry is the first of this strength
 pub record First (bs : List ℕ) (strength k : ℕ) : Type 0 where

@@ -1,7 +1,10 @@
 -- The ranges of a certificate's numbers, under their names.
 use mathlib.Core.Logic.{_⊎_}
 use mathlib.Core.Path.{_≡_}
-use Prim.Native.Nat.{ℕ, _*_, _≤_}
+use mathlib.Core.List.{List}
+use Prim.Native.Nat.{ℕ, _*_, _/_, _≤_, _<_}
+use lib.ListN.{length}
+use Rattle.certificate.specs.Strengths.{strength-at, factor-at}
 use Rattle.certificate.specs.declared.fields.Geometry.{Geometry}
 use Rattle.certificate.specs.declared.fields.CharacteristicValues.{CharacteristicValues}
 use Rattle.certificate.specs.declared.fields.PartialFactors.{PartialFactors}
@@ -54,3 +57,12 @@ pub record FactorsInRange (f : PartialFactors) : Type 0 where
   pub anchor-shear : Factor (f .«anchor_shear»)
   pub connection-shear : Factor (f .«connection_shear»)
   pub concrete : Factor (f .concrete)
+
+-- a list of strength classes: 1 to 64 entries, strengths strictly rising
+pub record ListInRange (bs : List ℕ) : Type 0 where
+  pub whole : length bs ≡ 4 * (length bs / 4)
+  pub some : 1 ≤ length bs / 4
+  pub few : length bs / 4 ≤ 64
+  pub strengths : (k : ℕ) → k < length bs / 4 → Between 12 75 (strength-at bs k)
+  pub rising : (j k : ℕ) → j < k → k < length bs / 4 → strength-at bs j < strength-at bs k
+  pub factors : (k : ℕ) → k < length bs / 4 → Between 20 400 (factor-at bs k)

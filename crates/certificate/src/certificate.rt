@@ -4,7 +4,8 @@ ghost use Rattle.std.specs.declared.result.Result.the-variants.{Ok};
 ghost use Rattle.certificate.specs.Layout.{offset, section-of};
 ghost use Rattle.certificate.specs.Reading.{refusal};
 ghost use Rattle.certificate.specs.Content.{edition-of, geometry-of, values-of, factors-of, reading, read-as, held-by};
-ghost use Rattle.certificate.specs.Ranges.{GeometryInRange, ValuesInRange, FactorsInRange};
+ghost use Rattle.certificate.specs.Lookup.{list-section};
+ghost use Rattle.certificate.specs.Ranges.{GeometryInRange, ValuesInRange, FactorsInRange, ListInRange};
 use crate::asking::ask_certificate;
 use crate::bytes::byte_at;
 use crate::decode::factors_in;
@@ -17,6 +18,7 @@ use crate::fields::Geometry;
 use crate::fields::PartialFactors;
 use crate::layout::Section;
 use crate::layout::part_of;
+use crate::lookup::Concrete;
 use crate::part::Part;
 
 #[derive(Clone, Copy)]
@@ -75,5 +77,14 @@ impl<'a> Certificate<'a> {
         ensures lawful { λ r. ⌜ (refusal (now (now (self .entry) .bytes)) ≡ Ok tt → FactorsInRange r) ⌝ }
     {
         factors_in(self.section(Section::Resistance).bytes)
+    }
+
+    // The list of strength classes for this state of the concrete, as a part of the caller's bytes.
+    pub fn strengths(&self, concrete: Concrete) -> Part<'a>
+        ensures place { λ r. ⌜ r .place ≡ offset (now (now (self .entry) .bytes)) (list-section concrete) ⌝ }
+        ensures bytes { λ r. ⌜ now (r .bytes) ≡ section-of (now (now (self .entry) .bytes)) (list-section concrete) ⌝ }
+        ensures lawful { λ r. ⌜ (refusal (now (now (self .entry) .bytes)) ≡ Ok tt → ListInRange (now (r .bytes))) ⌝ }
+    {
+        self.section(concrete.section())
     }
 }

@@ -4,9 +4,10 @@ ghost use Prim.Native.Nat.{_+_, _*_, _/_, _<_};
 ghost use lib.Dec.{ltb};
 ghost use lib.ListN.{length};
 ghost use Rattle.certificate.specs.Content.{entry-at};
-ghost use Rattle.certificate.specs.Lookup.{chosen-list, FirstAt, TailFrom, at-place};
+ghost use Rattle.certificate.specs.Lookup.{chosen-list, list-section, FirstAt, TailFrom, at-place};
 use crate::bytes::u16_at;
 use crate::fields::StrengthFactor;
+use crate::layout::Section;
 use crate::strengths::ENTRY_LENGTH;
 
 // The state of the concrete, which chooses the list.
@@ -14,6 +15,17 @@ use crate::strengths::ENTRY_LENGTH;
 pub enum Concrete {
     Cracked,
     Uncracked,
+}
+
+impl Concrete {
+    pub(crate) fn section(self) -> Section
+        ensures { λ r. ⌜ r ≡ list-section self ⌝ }
+    {
+        match self {
+            Concrete::Cracked => Section::Cracked,
+            Concrete::Uncracked => Section::Uncracked,
+        }
+    }
 }
 
 fn chosen<'a>(cracked: &'a [u8], uncracked: &'a [u8], concrete: Concrete) -> &'a [u8]
