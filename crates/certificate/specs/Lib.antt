@@ -8,3 +8,5 @@ pub mod Reading
 pub mod Content
 pub mod Ranges
 pub mod Lookup
+pub mod Drafts
+pub mod Writing
