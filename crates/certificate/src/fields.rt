@@ -1,14 +1,14 @@
 // What a certificate says: plain numbers under the names of the trade.
 
 // The rules by which a certificate is rated.
-#[derive(Clone, Copy, Debug, PartialEq, Eq)]
+#[derive(Clone, Copy)]
 pub enum Edition {
     First,
     Second,
 }
 
 // Lengths in tenths of a millimetre, factors k in tenths, the moment of inertia in mm⁴.
-#[derive(Clone, Copy, Debug, PartialEq, Eq)]
+#[derive(Clone, Copy)]
 pub struct Geometry {
     pub embedment_depth: u16,
     pub channel_width: u16,
@@ -24,7 +24,7 @@ pub struct Geometry {
 }
 
 // Characteristic values in N, flexure in Nm; 0 for anchor or connection in shear: there is nothing to verify.
-#[derive(Clone, Copy, Debug, PartialEq, Eq)]
+#[derive(Clone, Copy)]
 pub struct CharacteristicValues {
     pub anchor: u32,
     pub connection: u32,
@@ -39,7 +39,7 @@ pub struct CharacteristicValues {
 }
 
 // Partial factors in hundredths.
-#[derive(Clone, Copy, Debug, PartialEq, Eq)]
+#[derive(Clone, Copy)]
 pub struct PartialFactors {
     pub anchor: u16,
     pub connection: u16,
@@ -54,7 +54,7 @@ pub struct PartialFactors {
 }
 
 // A strength class in N/mm², and the factor on the pull-out value in hundredths.
-#[derive(Clone, Copy, Debug, PartialEq, Eq)]
+#[derive(Clone, Copy)]
 pub struct StrengthFactor {
     pub strength: u16,
     pub factor: u16,

@@ -15,7 +15,7 @@ pub const MOST_BYTES: usize = 4096;
 pub const SECTIONS: u8 = 4;
 
 // The four sections, in the order of their pairs.
-#[derive(Clone, Copy, Debug, PartialEq, Eq)]
+#[derive(Clone, Copy)]
 pub enum Section {
     Geometry,
     Resistance,

@@ -11,7 +11,7 @@ use crate::layout::Section;
 use crate::strengths::ENTRY_LENGTH;
 
 // The state of the concrete, which chooses the list.
-#[derive(Clone, Copy, Debug, PartialEq, Eq)]
+#[derive(Clone, Copy)]
 pub enum Concrete {
     Cracked,
     Uncracked,
