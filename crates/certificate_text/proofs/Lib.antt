@@ -1,1 +1,4 @@
 pub mod DigitRuns
+pub mod Cuts
+pub mod WordRuns
+pub mod FrontRuns

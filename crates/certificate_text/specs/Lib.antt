@@ -1,3 +1,5 @@
 pub mod Names
 pub mod Pieces
 pub mod Numerals
+pub mod Lines
+pub mod Fronts

@@ -20,8 +20,8 @@ abbrev pub four : List ℕ → Field
 four name = record { name = name; most = 4294967295 }
 
 -- edition, geometry, characteristic values, partial factors
-abbrev pub fields : List Field
-fields =
+abbrev pub table : List Field
+table =
     edition
     ∷ two (codes "embedment_depth")
     ∷ two (codes "channel_width")
@@ -55,3 +55,7 @@ fields =
     ∷ two (codes "factor_connection_shear")
     ∷ two (codes "factor_concrete")
     ∷ []
+
+-- the fields of every text, in their order
+unfoldable pub fields : List Field
+fields = table

@@ -2,7 +2,7 @@
 ghost use mathlib.Core.Path.{_≡_};
 ghost use Prim.Native.Nat.{_<_};
 ghost use lib.ListN.{getD};
-ghost use Rattle.certificate_text.specs.Names.{fields, edition};
+ghost use Rattle.certificate_text.specs.Names.{table, edition};
 
 pub(crate) const FIELDS: usize = 32;
 
@@ -49,7 +49,7 @@ const MOSTS: [u32; FIELDS] = [
 
 pub(crate) fn name_of(k: usize) -> &'static str
     requires { ⌜ k < 32 ⌝ }
-    ensures { λ r. ⌜ now r ≡ getD fields k edition .name ⌝ }
+    ensures { λ r. ⌜ now r ≡ getD table k edition .name ⌝ }
 {
     match k {
         0 => "edition",
@@ -89,7 +89,7 @@ pub(crate) fn name_of(k: usize) -> &'static str
 
 pub(crate) fn most_of(k: usize) -> u32
     requires { ⌜ k < 32 ⌝ }
-    ensures { λ r. ⌜ r ≡ getD fields k edition .most ⌝ }
+    ensures { λ r. ⌜ r ≡ getD table k edition .most ⌝ }
 {
     MOSTS[k]
 }
