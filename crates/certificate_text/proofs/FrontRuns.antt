@@ -59,6 +59,7 @@ module _ (before after numbers : List ℕ) (k : ℕ) (inv : SomeRead before afte
       let t = take-all k numbers (omega (arith, inv .room)) in
       record {
         values = sym t ∙ sym (append-nil (take k numbers)) ∙ ap (λ (ns : List ℕ). take k numbers ++ ns) (sym e) ∙ inv .values;
+        full = inv .room;
         past = inv .past ∙ ap (λ (n : ℕ). drop n (lines before)) z;
         shorter = omega (arith, inv .shorter);
       }

@@ -2,3 +2,4 @@ pub mod DigitRuns
 pub mod Cuts
 pub mod WordRuns
 pub mod FrontRuns
+pub mod TextRuns

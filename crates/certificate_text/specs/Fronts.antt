@@ -35,6 +35,7 @@ front-entries name (l ∷ ls) = understood-then (entry-line name l) (front-entri
 -- the fixed lines are read
 pub record AllRead (before after numbers : List ℕ) : Type 0 where
   pub values : numbers ≡ front-fields fields (lines before)
+  pub full : length numbers ≡ 32
   pub past : lines after ≡ drop 32 (lines before)
   pub shorter : 32 + length after ≤ length before
 

@@ -3,3 +3,5 @@ pub mod Pieces
 pub mod Numerals
 pub mod Lines
 pub mod Fronts
+pub mod Content
+pub mod Parsed

@@ -1,6 +1,7 @@
 -- The lines that every text has, in their order: a name and a number that fits the field's width.
 use mathlib.Core.List.{List, [], _∷_}
-use Prim.Native.Nat.{ℕ}
+use Prim.Native.Nat.{ℕ, _≤_, _<_}
+use lib.ListN.{getD}
 use lib.Chars.{codes}
 
 -- a field's name and the largest number that it holds
@@ -59,3 +60,7 @@ table =
 -- the fields of every text, in their order
 unfoldable pub fields : List Field
 fields = table
+
+-- each number fits its field
+abbrev pub Fitting : List ℕ → Type 0
+Fitting ns = (k : ℕ) → k < 32 → getD ns k 0 ≤ getD table k edition .most

@@ -29,6 +29,7 @@ fn number_of(line: &[u8], k: usize) -> Option<u32>
 }
 
 // What is left of the text.
+#[derive(Drop)]
 pub(crate) struct Reader<'a> {
     pub(crate) rest: &'a [u8],
 }
