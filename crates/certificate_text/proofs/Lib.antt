@@ -3,3 +3,4 @@ pub mod Cuts
 pub mod WordRuns
 pub mod FrontRuns
 pub mod TextRuns
+pub mod PrintRuns

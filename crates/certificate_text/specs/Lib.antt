@@ -5,3 +5,4 @@ pub mod Lines
 pub mod Fronts
 pub mod Content
 pub mod Parsed
+pub mod Printed
