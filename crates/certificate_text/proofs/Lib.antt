@@ -1,0 +1,6 @@
+pub mod DigitRuns
+pub mod Cuts
+pub mod WordRuns
+pub mod FrontRuns
+pub mod TextRuns
+pub mod PrintRuns
