@@ -1,7 +1,7 @@
 -- The bytes that are written, without gaps: the head, the two sections of numbers, and the two lists.
 use mathlib.Core.Path.{_≡_}
 use mathlib.Core.List.{List, [], _∷_, _++_}
-use Prim.Native.Nat.{ℕ, _+_, _*_, _^_, _<_}
+use Prim.Native.Nat.{ℕ, _+_, _*_, _^_, _<_, _≤_}
 use lib.Dec.{leb}
 use lib.ListN.{length, drop}
 use denote.Ref.{now}
@@ -112,6 +112,7 @@ abbrev pub Wrote : Content → List ℕ → List ℕ → Result ℕ CertificateF
 Wrote c old new (Ok n) =
     (writing-refusal c (length old) ≡ Ok tt)
     × (n ≡ length (written c))
+    × (n ≤ length old)
     × (new ≡ written c ++ drop n old)
     × (reading (written c) ≡ Ok c)
 Wrote c old new (Err e) = (writing-refusal c (length old) ≡ Err e) × (new ≡ old)

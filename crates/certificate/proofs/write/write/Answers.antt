@@ -51,6 +51,7 @@ returns c =
     let all : n - 0 ≡ n = omega arith in (
       then-buffer k (length old) e ∙ cond-true _ _ _ (le-leb _ _ fits),
       ap length is,
+      c .if-buffer-count .left,
       ap (λ (ys : List ℕ). ys ++ postOf 0 (n - 0) old) (c .copy-from-slice .ensures .after ∙ is) ∙ ap (λ (m : ℕ). written k ++ drop m old) all,
       reads-back k e (content-back k (omega arith) (omega arith) (c .draft-of-draft .ensures .fits)),
     )
