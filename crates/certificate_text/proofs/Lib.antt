@@ -4,3 +4,4 @@ pub mod WordRuns
 pub mod FrontRuns
 pub mod TextRuns
 pub mod PrintRuns
+pub mod RoundTrips
