@@ -5,3 +5,4 @@ pub mod FrontRuns
 pub mod TextRuns
 pub mod PrintRuns
 pub mod RoundTrips
+pub mod Lawful
