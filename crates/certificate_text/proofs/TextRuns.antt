@@ -57,20 +57,20 @@ parsed-short text n e h =
 
 module _
     (text after₁ after₂ after₃ numbers : List ℕ) (cr un : List StrengthFactor) (m n : ℕ)
-    (all : AllRead text after₁ numbers)
+    (nv : numbers ≡ front-fields fields (lines text)) (np : lines after₁ ≡ drop 32 (lines text))
     (crv : cr ≡ front-entries (codes "cracked") (lines after₁)) (crp : lines after₂ ≡ drop m (lines after₁)) (crn : m ≡ length cr)
     (unv : un ≡ front-entries (codes "uncracked") (lines after₂))
   where
     numbers-is : numbers ≡ numbers-read text
     unfolding numbers-read
-    numbers-is = all .values
+    numbers-is = nv
 
     cracked-is : cr ≡ cracked-read text
     unfolding cracked-read
-    cracked-is = crv ∙ ap (front-entries (codes "cracked")) (all .past)
+    cracked-is = crv ∙ ap (front-entries (codes "cracked")) np
 
     second : lines after₂ ≡ drop (32 + m) (lines text)
-    second = crp ∙ ap (drop m) (all .past) ∙ drop-drop m 32 (lines text)
+    second = crp ∙ ap (drop m) np ∙ drop-drop m 32 (lines text)
 
     uncracked-is : un ≡ uncracked-read text
     unfolding uncracked-read
@@ -81,10 +81,10 @@ module _
     third : lines after₃ ≡ drop n (lines after₂) → lines after₃ ≡ drop (32 + m + n) (lines text)
     third unp = unp ∙ ap (drop n) second ∙ drop-drop n (32 + m) (lines text)
 
-    understood-is : n ≡ length un → understood text ≡ 32 + m + n
+    understood-is : length numbers ≡ 32 → n ≡ length un → understood text ≡ 32 + m + n
     unfolding understood
-    understood-is unn =
-        let z : length (numbers-read text) ≡ 32 = sym (ap length numbers-is) ∙ all .full in
+    understood-is full unn =
+        let z : length (numbers-read text) ≡ 32 = sym (ap length numbers-is) ∙ full in
         cond-true _ _ _ (eq-eqb (length (numbers-read text)) 32 z) ∙ omega (arith, ap length cracked-is, ap length uncracked-is, crn, unn)
 
     content-is : content-from numbers cr un ≡ content-from (numbers-read text) (cracked-read text) (uncracked-read text)
@@ -93,19 +93,19 @@ module _
         ∙ ap (λ (xs : List StrengthFactor). content-from (numbers-read text) xs un) cracked-is
         ∙ ap (λ (xs : List StrengthFactor). content-from (numbers-read text) (cracked-read text) xs) uncracked-is
 
-    pub parsed-whole : lines after₃ ≡ drop n (lines after₂) → n ≡ length un → length after₃ ≡ 0 → parsed text ≡ Ok (content-from numbers cr un)
+    pub parsed-whole : length numbers ≡ 32 → lines after₃ ≡ drop n (lines after₂) → n ≡ length un → length after₃ ≡ 0 → parsed text ≡ Ok (content-from numbers cr un)
     unfolding parsed
-    parsed-whole unp unn h =
+    parsed-whole full unp unn h =
         let z : lines after₃ ≡ [] = ap lines (nil-from-length after₃ h) ∙ no-lines in
         let e : length (lines text) ≤ 32 + m + n = omega (arith, ap length (sym (third unp) ∙ z), length-drop (32 + m + n) (lines text)) in
-        let u = understood-is unn in
+        let u = understood-is full unn in
         cond-true _ _ _ (and-from _ _ (le-leb 32 (understood text) (omega arith)) (le-leb (length (lines text)) (understood text) (omega arith))) ∙ ap Ok (sym content-is)
 
-    pub parsed-left : lines after₃ ≡ drop n (lines after₂) → n ≡ length un → 0 < length after₃ → parsed text ≡ Err (32 + m + n + 1)
+    pub parsed-left : length numbers ≡ 32 → lines after₃ ≡ drop n (lines after₂) → n ≡ length un → 0 < length after₃ → parsed text ≡ Err (32 + m + n + 1)
     unfolding parsed
-    parsed-left unp unn h =
+    parsed-left full unp unn h =
         let e : 32 + m + n < length (lines text) = omega (arith, some-line after₃ h, ap length (third unp), length-drop (32 + m + n) (lines text)) in
-        let u = understood-is unn in
+        let u = understood-is full unn in
         cond-false _ _ _ (and-right (leb 32 (understood text)) _ (lt-leb (length (lines text)) (understood text) (omega arith))) ∙ ap (λ (k : ℕ). Err (k + 1)) u
 
 -- a field's number fits the field
@@ -149,7 +149,7 @@ pub uncracked-fault : (text after₁ after₂ after₃ numbers : List ℕ) (cr :
 uncracked-fault text after₁ after₂ after₃ numbers cr m (Line n) all crv crp crn h = absurd h
 uncracked-fault text after₁ after₂ after₃ numbers cr m Memory all crv crp crn h =
     let un = front-entries (codes "uncracked") (lines after₂) in
-    let e = uncracked-is text after₁ after₂ after₂ numbers cr un m 0 all crv crp crn refl in
+    let e = uncracked-is text after₁ after₂ after₂ numbers cr un m 0 (all .values) (all .past) crv crp crn refl in
     omega (arith, ap length e)
 
 -- a content whose parts are those of the numbers

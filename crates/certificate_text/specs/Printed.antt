@@ -1,6 +1,6 @@
 -- The text of a certificate's content.
 use mathlib.Core.List.{List, [], _∷_, _++_}
-use Prim.Native.Nat.{ℕ}
+use Prim.Native.Nat.{ℕ, _<_}
 use lib.Chars.{codes}
 use lib.ListN.{getD, drop}
 use Rattle.std.specs.Joined.{joined}
@@ -88,3 +88,7 @@ rated-content bs = record {
   cracked = content-of bs .cracked;
   uncracked = content-of bs .uncracked;
 }
+
+-- each item is a byte
+abbrev pub Bytes : List ℕ → Type 0
+Bytes bs = (i : ℕ) → getD bs i 0 < 256

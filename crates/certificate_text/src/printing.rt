@@ -7,7 +7,8 @@ ghost use Rattle.std.specs.declared.result.Result.the-variants.{Ok};
 ghost use Rattle.certificate.specs.Content.{content-of, entries};
 ghost use Rattle.certificate.specs.Reading.{refusal};
 ghost use Rattle.certificate_text.specs.Names.{fields};
-ghost use Rattle.certificate_text.specs.Printed.{field-text, entry-text, fields-text, list-text, text-of, rated-content};
+ghost use Rattle.certificate_text.specs.Parsed.{parsed};
+ghost use Rattle.certificate_text.specs.Printed.{field-text, entry-text, fields-text, list-text, text-of, rated-content, Bytes};
 use crate::names::FIELDS;
 use crate::names::name_of;
 use crate::numbers::edition_number;
@@ -47,7 +48,8 @@ fn fields_text(heap: Global, numbers: &[u32; FIELDS]) -> Result<String, AllocErr
 
 // The lines of a list.
 fn list_text(heap: Global, name: &str, list: &[u8]) -> Result<String, AllocError>
-    ensures { λ r. ⌜ made r (λ s. string-bytes s ≡ list-text (now (name .entry)) (entries (now (list .entry)))) ⌝ }
+    ensures text { λ r. ⌜ made r (λ s. string-bytes s ≡ list-text (now (name .entry)) (entries (now (list .entry)))) ⌝ }
+    ensures bytes { λ _. ⌜ Bytes (now (list .entry)) ⌝ }
 {
     let mut out = String::new(heap);
     let mut k = 0;
@@ -62,6 +64,8 @@ fn list_text(heap: Global, name: &str, list: &[u8]) -> Result<String, AllocError
 // The text of a certificate that was read.
 pub fn print(heap: Global, certificate: &Certificate<'_>) -> Result<String, AllocError>
     ensures text { λ r. ⌜ made r (λ s. string-bytes s ≡ text-of (rated-content (now (now (certificate .entry) .bytes)))) ⌝ }
+    ensures lawful { λ r. ⌜ (refusal (now (now (certificate .entry) .bytes)) ≡ Ok tt → made r (λ s. string-bytes s ≡ text-of (content-of (now (now (certificate .entry) .bytes))))) ⌝ }
+    ensures back { λ r. ⌜ (refusal (now (now (certificate .entry) .bytes)) ≡ Ok tt → made r (λ s. parsed (string-bytes s) ≡ Ok (content-of (now (now (certificate .entry) .bytes))))) ⌝ }
 {
     let edition = edition_number(certificate.edition());
     let numbers = numbers_from(

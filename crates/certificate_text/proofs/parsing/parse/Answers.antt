@@ -36,7 +36,7 @@ returns-then-not-is-empty c =
     let b = c .in-Continue-cracked .ensures tt in
     let d = c .in-Continue-uncracked .ensures tt in
     let some : 0 < length (c .list-2 .last .self .rest .now) = search needs in
-    let e = parsed-left (c .args .text .now) _ _ _ _ _ _ _ _ a (b .values) (b .past) (c .in-Continue-cracked .cracked .ok .0) (d .values) (d .past) (c .in-Continue-uncracked .uncracked .ok .0) some in
+    let e = parsed-left (c .args .text .now) _ _ _ _ _ _ _ _ (a .values) (a .past) (b .values) (b .past) (c .in-Continue-cracked .cracked .ok .0) (d .values) (a .full) (d .past) (c .in-Continue-uncracked .uncracked .ok .0) some in
     let m = c .len .ensures in
     let n = c .len-then-not-is-empty .ensures in
     rw (m, n) e
@@ -58,5 +58,5 @@ returns c =
     let b = c .in-Continue-cracked .ensures tt in
     let d = c .in-Continue-uncracked .ensures tt in
     let none : length (c .list-2 .last .self .rest .now) ≡ 0 = search needs in
-    let e = parsed-whole (c .args .text .now) _ _ _ _ _ _ _ _ a (b .values) (b .past) (c .in-Continue-cracked .cracked .ok .0) (d .values) (d .past) (c .in-Continue-uncracked .uncracked .ok .0) none in
+    let e = parsed-whole (c .args .text .now) _ _ _ _ _ _ _ _ (a .values) (a .past) (b .values) (b .past) (c .in-Continue-cracked .cracked .ok .0) (d .values) (a .full) (d .past) (c .in-Continue-uncracked .uncracked .ok .0) none in
     e ∙ ap Ok (content-same (c .in-Continue-numbers .numbers) _ _ _ (vec-items (c .in-Continue-cracked .cracked)) (vec-items (c .in-Continue-uncracked .uncracked)) (c .geometry-from .ensures) (c .values-from .ensures) (c .factors-from .ensures))

@@ -36,4 +36,5 @@ pub returns : need.returns
 returns c =
     let bs : List ℕ = c .args .list .now in
     let name : List ℕ = c .args .name .now in
-    list-all name bs (string-bytes (c .loop-entry .out)) (list-text name (entries bs)) (c .loop-entry .k) (c .loop-entry .inv) (c .in-rest .ensures tt)
+    let e = list-all name bs (string-bytes (c .loop-entry .out)) (list-text name (entries bs)) (c .loop-entry .k) (c .loop-entry .inv) (c .in-rest .ensures tt) in
+    record { text = e; bytes = λ i. c .typed .list i .fits }
