@@ -1,1 +1,1 @@
-mod Rated
+mod Accepted

@@ -24,9 +24,10 @@ Makes text (Err (Text e)) = Parses text (Err e)
 Makes text (Err (Refused e)) = (c : Content) × (parsed text ≡ Ok c) × (writing-refusal c 4096 ≡ Err e)
 Makes text (Err Memory) = (c : Content) × (parsed text ≡ Ok c) × (writing-refusal c 4096 ≡ Ok tt)
 
--- what is shown is the text of what the bytes say, or the refusal that reading them gives
+-- what is shown is the text of what the bytes say, and says it again when it is parsed; or the refusal that reading them
+-- gives
 abbrev pub Shows : List ℕ → Result (String Global) ToolFault → Type 0
-Shows bytes (Ok shown) = (c : Content) × (reading bytes ≡ Ok c) × (string-bytes shown ≡ text-of c)
+Shows bytes (Ok shown) = (c : Content) × (reading bytes ≡ Ok c) × (string-bytes shown ≡ text-of c) × (parsed (string-bytes shown) ≡ Ok c)
 Shows bytes (Err (Text e)) = ⊥
 Shows bytes (Err (Refused e)) = reading bytes ≡ Err e
 Shows bytes (Err Memory) = (c : Content) × (reading bytes ≡ Ok c)
