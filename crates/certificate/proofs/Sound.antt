@@ -47,13 +47,6 @@ between-or-zero least most n h =
       | inr p ↦ inr (eqb-true n 0 p)
     ]
 
--- the edition is the first or the second
-pub edition-known : (bs : List ℕ) → refusal bs ≡ Ok tt → (getD bs 0 0 ≡ 1) ⊎ (getD bs 0 0 ≡ 2)
-unfolding refusal
-edition-known bs h =
-    let all = all-yes (header-asked bs ++ (layout-asked bs ++ (numbers-asked bs ++ strengths-asked bs))) h in
-    elim (or-cases (eqb (getD bs 0 0) 1) (eqb (getD bs 0 0) 2) (all .1 .0)) [ inl e ↦ inl (eqb-true (getD bs 0 0) 1 e) | inr e ↦ inr (eqb-true (getD bs 0 0) 2 e) ]
-
 -- the questions on the layout were all answered yes
 layout : (bs : List ℕ) → refusal bs ≡ Ok tt → All (λ q. q .0 ≡ true) (layout-asked bs)
 unfolding refusal
