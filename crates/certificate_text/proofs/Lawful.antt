@@ -1,8 +1,8 @@
 -- The numbers of a certificate that was read fit the text's fields.
-use mathlib.Core.Path.{_≡_, refl, sym, ap, subst, _∙_}
-use mathlib.Core.List.{List, [], _∷_, _++_, map}
+use mathlib.Core.Path.{_≡_, refl, sym, ap, _∙_}
+use mathlib.Core.List.{List, [], _∷_, map}
 use mathlib.Core.Bool.{Bool, true, false, _||_, cond}
-use mathlib.Core.Logic.{_⊎_, inl, inr, ⊎-elim}
+use mathlib.Core.Logic.{_⊎_, ⊎-elim}
 use Prim.Native.Nat.{ℕ, _+_, _*_, _/_, _≤_, _<_}
 use native.Mathlib.Omega.{arith}
 use lib.Dec.{eqb, lit<, lit≤}
@@ -11,8 +11,8 @@ use Rattle.std.specs.Iters.{counting}
 use Rattle.std.specs.shelf.Lists.{All}
 use Rattle.std.specs.declared.result.Result.{Result}
 use Rattle.std.specs.declared.result.Result.the-variants.{Ok, Err}
-use Rattle.std.proofs.shelf.Tests.{or-cases, eqb-true, eq-eqb, ne-eqb, cond-true, cond-false}
-use Rattle.certificate.specs.Content.{Content, content-of, edition-of, geometry-of, values-of, factors-of, entry-at, entries}
+use Rattle.std.proofs.shelf.Tests.{or-cases, eqb-true, ne-eqb, cond-true, cond-false}
+use Rattle.certificate.specs.Content.{content-of, edition-of, geometry-of, values-of, factors-of, entry-at, entries}
 use Rattle.certificate.specs.Layout.{section-of}
 use Rattle.certificate.specs.declared.layout.Section.the-variants as section
 use Rattle.certificate.specs.Ranges.{GeometryInRange, ValuesInRange, FactorsInRange, Value}
@@ -23,7 +23,6 @@ use Rattle.certificate.specs.declared.fields.Edition.the-variants.{First, Secon
 use Rattle.certificate.specs.declared.fields.Geometry.{Geometry}
 use Rattle.certificate.specs.declared.fields.CharacteristicValues.{CharacteristicValues}
 use Rattle.certificate.specs.declared.fields.PartialFactors.{PartialFactors}
-use Rattle.certificate.specs.declared.fields.StrengthFactor.{StrengthFactor}
 use Rattle.certificate_text.specs.Names.{table}
 use Rattle.certificate_text.specs.Printed.{numbers-from, edition-number, rated-content, text-of, Bytes}
 use Rattle.certificate_text.specs.Parsed.{parsed}

@@ -1,9 +1,9 @@
 -- What is printed parses back.
 use borrow.Author.Needs.{needs}
-use mathlib.Core.Path.{_≡_, refl, sym, ap, subst, _∙_}
+use mathlib.Core.Path.{_≡_, refl, sym, ap, _∙_}
 use mathlib.Core.List.{List, [], _∷_, _++_}
-use mathlib.Core.Bool.{Bool, true, false, _&&_, cond}
-use Prim.Native.Nat.{ℕ, zero, suc, _+_, _^_, _≤_, _<_}
+use mathlib.Core.Bool.{Bool, true, _&&_}
+use Prim.Native.Nat.{ℕ, suc, _+_, _^_, _≤_, _<_}
 use native.Mathlib.Omega.{arith}
 use lib.Chars.{codes}
 use lib.Dec.{eqb, leb, ltb}
@@ -23,7 +23,7 @@ use Rattle.certificate_text.specs.Names.{Field, table, fields}
 use Rattle.certificate_text.specs.Parsed.{parsed}
 use Rattle.certificate_text.specs.Numerals.{digits, read-on, numeral, number-in}
 use Rattle.certificate_text.specs.Pieces.{onto, pieces, lines, words}
-use Rattle.certificate_text.specs.Lines.{after-name, at-most, bounded, one-number, two-numbers, both, field-line, entry-line, next}
+use Rattle.certificate_text.specs.Lines.{after-name, at-most, bounded, one-number, two-numbers, both, field-line, entry-line}
 use Rattle.certificate_text.specs.Fronts.{understood-then, front-fields, front-entries}
 use Rattle.certificate_text.specs.Printed.{field-text, entry-text, fields-text, list-text, numbers-from, text-of}
 use Rattle.certificate_text.proofs.Cuts.{no-lines}

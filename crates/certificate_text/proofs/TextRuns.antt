@@ -2,18 +2,16 @@
 use mathlib.Core.Path.{_≡_, refl, sym, ap, subst, _∙_}
 use mathlib.Core.List.{List, [], _∷_}
 use mathlib.Core.Bool.{Bool, true, false, _&&_, cond}
-use mathlib.Core.Logic.{_⊎_, inl, inr, ⊎-elim}
 use Prim.Native.Nat.{ℕ, zero, suc, _+_, _-_, _≤_, _<_}
 use native.Mathlib.Omega.{arith}
 use lib.Chars.{codes}
 use lib.Dec.{eqb, leb}
 use lib.ListN.{length, getD, drop}
-use Rattle.std.specs.declared.result.Result.{Result}
 use Rattle.std.specs.declared.result.Result.the-variants.{Ok, Err}
 use Rattle.std.specs.declared.option.Option.{Option}
 use Rattle.std.specs.declared.option.Option.the-variants.{Some, None}
 use Rattle.std.proofs.shelf.Lists.{drop-drop, length-drop, nil-from-length}
-use Rattle.std.proofs.shelf.Tests.{eq-eqb, ne-eqb, le-leb, lt-leb, and-from, and-left, and-right, cond-true, cond-false, cases-bool}
+use Rattle.std.proofs.shelf.Tests.{eq-eqb, ne-eqb, le-leb, lt-leb, and-from, and-left, and-right, cond-true, cond-false}
 use Rattle.certificate.specs.Content.{Content}
 use Rattle.certificate.specs.declared.fields.Geometry.{Geometry}
 use Rattle.certificate.specs.declared.fields.CharacteristicValues.{CharacteristicValues}
@@ -24,7 +22,7 @@ use Rattle.certificate_text.specs.Pieces.{onto, pieces, lines, words}
 use Rattle.certificate_text.specs.Numerals.{number-in}
 use Rattle.certificate_text.specs.declared.fault.TextFault.{TextFault}
 use Rattle.certificate_text.specs.declared.fault.TextFault.the-variants.{Line, Memory}
-use Rattle.certificate_text.specs.Lines.{bounded, one-number, after-name, field-line, next}
+use Rattle.certificate_text.specs.Lines.{one-number, after-name, field-line, next}
 use Rattle.certificate_text.specs.Fronts.{understood-then, front-fields, front-entries, AllRead, Fixed, Listed}
 use Rattle.certificate_text.specs.Content.{geometry-from, values-from, factors-from, content-from}
 use Rattle.certificate_text.specs.Parsed.{numbers-read, cracked-read, uncracked-read, understood, parsed, Parses}

@@ -11,8 +11,7 @@ use Rattle.std.specs.declared.option.Option.{Option}
 use Rattle.std.specs.declared.option.Option.the-variants.{Some, None}
 use Rattle.std.specs.shelf.Text.{sameBytes}
 use Rattle.std.proofs.shelf.Equals.{sameBytes-decides}
-use Rattle.std.proofs.shelf.Tests.{lt-leb, leb-true, and-left, and-right, eqb-true, eqb-false, cond-true, cond-false, cases-bool}
-use Rattle.certificate.specs.declared.fields.StrengthFactor.{StrengthFactor}
+use Rattle.std.proofs.shelf.Tests.{lt-leb, leb-true, and-left, and-right, eqb-true, cond-true, cond-false, cases-bool}
 use Rattle.certificate_text.specs.Numerals.{digits, numeral, read-on, number-in}
 use Rattle.certificate_text.specs.Pieces.{onto, pieces, words}
 use Rattle.certificate_text.specs.Lines.{after-name, at-most, bounded, one-number, two-numbers, both}

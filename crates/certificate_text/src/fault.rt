@@ -15,7 +15,7 @@ pub impl From<AllocError> for TextFault as TextFaultFromAlloc {
     ghost converts = { λ _ r. r ≡ Memory };
 
     fn from(_e: AllocError) -> TextFault {
-        TextFault::Memory
+        TextFault::Memory // nothing was allocated
     }
 }
 
@@ -23,6 +23,6 @@ pub impl<T: Drop> From<Refused<T>> for TextFault as TextFaultFromRefused {
     ghost converts = { λ _ r. r ≡ Memory };
 
     fn from(_e: Refused<T>) -> TextFault {
-        TextFault::Memory
+        TextFault::Memory // the refused entry is let go
     }
 }

@@ -1,14 +1,10 @@
 // Reading a text line by line.
 ghost use mathlib.Core.Path.{_≡_};
-ghost use Prim.Native.Nat.{_+_, _≤_, _<_};
-ghost use lib.ListN.{length, drop, getD};
-ghost use Rattle.std.specs.Results.{Cases};
-ghost use Rattle.std.specs.Of.Vec.{vec-items, vec-len};
+ghost use Prim.Native.Nat.{_<_};
+ghost use lib.ListN.{getD};
 ghost use Rattle.certificate_text.specs.Names.{fields, edition};
-ghost use Rattle.certificate_text.specs.Pieces.{lines};
 ghost use Rattle.certificate_text.specs.Lines.{field-line, entry-line, Steps};
 ghost use Rattle.certificate_text.specs.Fronts.{Fixed, Listed};
-ghost use Rattle.certificate_text.specs.declared.fault.TextFault.the-variants.{Line, Memory};
 use crate::fault::TextFault;
 use crate::fault::TextFaultFromRefused;
 use crate::line::entry_in;

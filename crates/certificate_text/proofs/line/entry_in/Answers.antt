@@ -1,4 +1,4 @@
-use mathlib.Core.Path.{_≡_, sym, ap, _∙_}
+use mathlib.Core.Path.{sym, ap, _∙_}
 use Rattle.certificate_text.specs.Lines.{two-numbers, entry-line}
 use Rattle.certificate_text.proofs.line.entry_in.Needs as need
 

@@ -1,4 +1,4 @@
-use mathlib.Core.Path.{_≡_, sym, ap, _∙_}
+use mathlib.Core.Path.{sym, ap, _∙_}
 use Rattle.certificate_text.specs.Lines.{one-number}
 use Rattle.certificate_text.proofs.WordRuns.{one-word}
 use Rattle.certificate_text.proofs.line.field_in.Needs as need

@@ -1,4 +1,3 @@
-use lib.ListN.{getD}
 use Rattle.std.proofs.shelf.Lists.{getD-map}
 use Rattle.certificate_text.specs.Names.{Field, table, edition}
 use Rattle.certificate_text.proofs.names.most_of.Needs as need

@@ -1,9 +1,8 @@
 use borrow.Author.Needs.{needs}
 use mathlib.Core.Logic.{inl, inr}
-use Prim.Native.Nat.{_-_, _<_, _≤_}
+use Prim.Native.Nat.{_-_, _≤_}
 use native.Mathlib.Omega.{arith}
 use lib.ListN.{length, getD}
-use Rattle.std.proofs.shelf.Tests.{eqb-true, eqb-false}
 use Rattle.certificate_text.proofs.DigitRuns.{wrong-length, no-digit, digits-more, read-more, read-all, below-more, below-nine}
 use Rattle.certificate_text.proofs.numeral.number_in.Needs as need
 use Rattle.certificate_text.proofs.numeral.number_in.Needs.{then-is-empty·by·then-is-empty, then-is-empty·by·else-is-empty·then-bytes-gt-MOST-DIGITS}

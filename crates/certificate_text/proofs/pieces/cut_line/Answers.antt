@@ -1,9 +1,9 @@
 use borrow.Author.Needs.{needs}
-use mathlib.Core.Path.{_≡_, refl, ap, _∙_}
-use mathlib.Core.List.{List, []}
+use mathlib.Core.Path.{_≡_, ap, _∙_}
+use mathlib.Core.List.{List}
 use Prim.Native.Nat.{ℕ, _+_, _-_, _≤_, _<_}
 use native.Mathlib.Omega.{arith}
-use lib.ListN.{length, take, drop}
+use lib.ListN.{length}
 use Rattle.std.proofs.shelf.Lists.{take-rest, length-drop, nil-from-length}
 use Rattle.certificate_text.specs.Pieces.{lines}
 use Rattle.certificate_text.proofs.Cuts.{first-line, last-line, no-lines}

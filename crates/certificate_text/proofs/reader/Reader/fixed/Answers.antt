@@ -1,6 +1,6 @@
 use mathlib.Core.Path.{refl}
 use native.Mathlib.Omega.{arith}
-use Rattle.certificate_text.proofs.FrontRuns.{SomeRead, field-more, field-stop, fields-end}
+use Rattle.certificate_text.proofs.FrontRuns.{field-more, field-stop, fields-end}
 use Rattle.certificate_text.proofs.reader.Reader.fixed.Needs as need
 
 pub loop-k-holds : need.loop-k-holds

@@ -1,6 +1,4 @@
-use mathlib.Core.Path.{refl, subst}
-use mathlib.Core.List.{List}
-use Prim.Native.Nat.{ℕ}
+use mathlib.Core.Path.{refl}
 use Rattle.std.proofs.shelf.Results.{err-from-errBy}
 use Rattle.certificate_text.proofs.FrontRuns.{entry-more, entry-there, entries-end, entries-same, entries-start}
 use Rattle.certificate_text.proofs.reader.Reader.list.Needs as need
