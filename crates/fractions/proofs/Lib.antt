@@ -1,0 +1,4 @@
+pub mod Powers
+pub mod Roots
+pub mod Orders
+pub mod Totals

@@ -1,0 +1,4 @@
+pub mod Extremes
+pub mod Rises
+pub mod Roots
+pub mod Quotients

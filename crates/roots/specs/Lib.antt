@@ -1,0 +1,3 @@
+pub mod Extremes
+pub mod Roots
+pub mod Division
