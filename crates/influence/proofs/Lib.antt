@@ -1,0 +1,5 @@
+pub mod Rounding
+pub mod Sizes
+pub mod Enclosed
+pub mod Lengths
+pub mod Figure
