@@ -1,0 +1,5 @@
+pub mod Spreads
+pub mod Accuracy
+pub mod Sums
+pub mod Whole
+pub mod Exactness

@@ -1,0 +1,4 @@
+pub mod Shares
+pub mod Readings
+pub mod Cases
+pub mod Exact

@@ -1,0 +1,2 @@
+pub mod Validity
+mod Products
