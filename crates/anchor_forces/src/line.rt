@@ -19,7 +19,7 @@ pub enum Line {
 
 impl Line {
     // Reads a line, with its line feed or, at the end of the input, without; none where it is not understood.
-    pub fn parse(bytes: &[u8]) -> Option<Line> {
+    pub(crate) fn parse(bytes: &[u8]) -> Option<Line> {
         let line = from_utf8(bytes).ok()?;
         let text = line.strip_suffix('\n').unwrap_or(line);
         let mut words = text.split(' ');
