@@ -17,6 +17,8 @@ pub enum Refusal {
     Near,
     // No bolt lies exactly there.
     NoBolt,
+    // A distance that a reduction is made with is out of range.
+    Reduction,
 }
 
 impl Refusal {
@@ -31,6 +33,7 @@ impl Refusal {
             Refusal::Full => 9,
             Refusal::Near => 10,
             Refusal::NoBolt => 11,
+            Refusal::Reduction => 14,
         }
     }
 }

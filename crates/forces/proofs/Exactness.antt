@@ -14,11 +14,11 @@ use Rattle.influence.specs.Exact.{low-length, high-length}
 use Rattle.influence.proofs.Lengths.{length-not-above, length-not-below, length-at-least, length-past-spacing}
 use Rattle.bolts.specs.Loads.{total-load}
 use Rattle.bolts.specs.declared.bolt.Direction.{Direction}
-use Rattle.forces.specs.Cases.{Case, Valid, InRange, force-read}
+use Rattle.forces.specs.Cases.{Case, Valid, InRange, share-by, force-read}
 use Rattle.forces.specs.Exact.{length-of, force, Accurate, Bounded}
 use Rattle.forces.specs.declared.opening.Opening.{Opening}
-use Rattle.forces.proofs.Whole.{force-covers, force-near, positions, forces-le}
-use Rattle.forces.proofs.Sums.{weighted-le}
+use Rattle.forces.proofs.Whole.{force-covers, force-near, positions, forces-le, all-shares}
+use Rattle.forces.proofs.Sums.{weighted-le, sumBy-swap}
 
 channel : (o : Opening) → InRange o → lengths.InRange (o .inertia) (o .spacing)
 channel o r = record { stiff = r .stiff; slender = r .slender; wide = r .wide; narrow = r .narrow }
@@ -57,3 +57,12 @@ bounded c d v =
           omega (arith, ap (force c d) at, le, all);
       weighted = λ w small. let b = weighted-le 1000000 w (force c d) (counting 0 n) small in omega (arith, b, all);
     }
+
+-- all forces of a case together, against its whole load
+pub forces-sum : (c : Case) (d : Direction) → Valid c → sumBy (force c d) (counting 0 (c .opening .anchors)) ≤ 1001 * total-load d (c .bolts) + 12 * length (c .bolts)
+forces-sum c d v =
+    let o : Opening = c .opening in
+    let r = channel o (v .opened) in
+    let a = sumBy-swap (λ b k. share-by (length-of o) o d k b) (c .bolts) (counting 0 (o .anchors)) in
+    let b = all-shares (length-of o) o d (v .opened) (length-past-spacing (o .inertia) (o .spacing) r) (long (o .inertia) (o .spacing) r) (c .bolts) (positions _ (c .bolts) (v .sound)) in
+    omega arith

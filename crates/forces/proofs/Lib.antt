@@ -3,3 +3,4 @@ pub mod Accuracy
 pub mod Sums
 pub mod Whole
 pub mod Exactness
+pub mod Weighted

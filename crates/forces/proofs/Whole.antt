@@ -82,7 +82,7 @@ total-load-le d r bolts s few =
 
 -- all forces of a case together
 module _ (L : ℕ) (o : Opening) (d : Direction) (ranged : InRange o) (wider : um (o .spacing) ≤ L) (long : 66000 ≤ L) where
-  all-shares : (bolts : List Bolt) → All (λ b. b .position ≤ reach o) bolts → sumBy (λ b. sumBy (λ k. share-by L o d k b) (counting 0 (o .anchors))) bolts ≤ 1001 * total-load d bolts + 12 * length bolts
+  pub all-shares : (bolts : List Bolt) → All (λ b. b .position ≤ reach o) bolts → sumBy (λ b. sumBy (λ k. share-by L o d k b) (counting 0 (o .anchors))) bolts ≤ 1001 * total-load d bolts + 12 * length bolts
   all-shares [] all = omega arith
   all-shares (b ∷ bs) (h, all) =
       let one = shares-le (load-of d b) L (o .anchors) (um (o .spacing)) (um (b .position)) (omega (arith, ranged .two)) (ranged .twelve) (within o ranged b h) wider long in

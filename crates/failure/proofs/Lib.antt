@@ -1,0 +1,5 @@
+pub mod AtPlaces
+pub mod Shortfalls
+pub mod Quotients
+pub mod Products
+pub mod Rooting

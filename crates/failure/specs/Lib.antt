@@ -1,0 +1,4 @@
+pub mod Meanings
+pub mod Reductions
+pub mod Corners
+pub mod Maybe
