@@ -1,4 +1,4 @@
 pub mod Meanings
 pub mod Reductions
 pub mod Corners
-pub mod Maybe
+pub mod Combined

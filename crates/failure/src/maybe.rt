@@ -1,5 +1,5 @@
 // A failure mode with or without a straight reduction, as one type.
-ghost use Rattle.failure.specs.Maybe.{maybe-meaning};
+ghost use Rattle.failure.specs.Combined.{maybe-of};
 use crate::mode::FailureMode;
 use crate::places::Places;
 use crate::straight::StraightReduction;
@@ -14,7 +14,7 @@ pub enum MaybeReduced<M> {
 }
 
 pub impl<M: FailureMode> FailureMode for MaybeReduced<M> as MaybeReducedMode {
-    ghost meaning = { maybe-meaning (M·FailureMode .meaning) };
+    ghost meaning = { maybe-of (M·FailureMode .meaning) };
 
     fn allowance(&self) -> u32 {
         match self {
