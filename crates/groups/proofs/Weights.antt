@@ -5,7 +5,7 @@ use mathlib.Core.Logic.{⊎-elim}
 use Prim.Native.Nat.{ℕ, _+_, _-_, _*_, _^_, _<_, _≤_}
 use native.Mathlib.Nat.{mul-le-mul-right, mul-le-mul-left, mul-sub}
 use native.Mathlib.Omega.{arith}
-use lib.Dec.{ltb, lit<}
+use lib.Dec.{eqb, ltb, lit<}
 use Rattle.std.proofs.shelf.Tests.{cases-lt, cond-true, cond-false, lt-ltb, le-ltb}
 use Rattle.fractions.specs.Fractions.{Fraction, PowerAtMost, PowerAtLeast}
 use Rattle.fractions.proofs.Powers.{pow-two}
@@ -15,6 +15,8 @@ use Rattle.roots.specs.Extremes.{Least}
 use Rattle.roots.specs.Roots.{root-up-of}
 use Rattle.roots.proofs.Quotients.{up-least, up-most}
 use Rattle.roots.proofs.Roots.{root-up-is, root-up-within}
+use Rattle.forces.specs.declared.opening.Opening.{Opening}
+use Rattle.groups.specs.Groups.{apart, weight-on}
 use Rattle.groups.specs.Weights.{weight, left, LowWeight, HighWeight}
 
 -- within the spacing: u is what is left of it, r the root of u over S, up
@@ -84,3 +86,11 @@ module _ (S d : ℕ) (pos : 0 < S) where
       (λ (h : d < S). let e = weight-within S d h in rw e (small S (S - d) (root-up-of (S - d) S) pos (omega arith) (omega arith) (root-up-is (S - d) S (omega arith) (omega arith))))
       (λ (h : S ≤ d). let e = weight-past S d h in rw e (omega arith))
       (cases-lt d S)
+
+-- whatever the anchor, a weight is at most one
+own-small : (t : Bool) (w : ℕ) → w ≤ 1000000 → cond t 1000000 w ≤ 1000000
+own-small true w h = omega arith
+own-small false w h = h
+
+pub weight-on-small : (S : ℕ) → 0 < S → (o : Opening) (k j : ℕ) → weight-on S o k j ≤ 1000000
+weight-on-small S pos o k j = own-small (eqb j k) (weight S (apart o k j)) (weight-small S (apart o k j) pos)

@@ -7,13 +7,14 @@
 use mathlib.Core.Path.{_≡_}
 use mathlib.Core.List.{List, map}
 use mathlib.Core.Bool.{Bool, true, false, cond}
-use Prim.Native.Nat.{ℕ, _*_, _<_}
+use Prim.Native.Nat.{ℕ, _+_, _*_, _<_}
 use lib.Dec.{eqb}
 use Rattle.std.specs.Iters.{counting}
 use Rattle.std.specs.shelf.Lists.{sumBy}
-use Rattle.fractions.specs.Fractions.{Fraction, whole, times, total}
+use Rattle.fractions.specs.Fractions.{Fraction, AtMost, whole, plus, times, total}
 use Rattle.influence.specs.Exact.{low-length, high-length}
 use Rattle.roots.specs.Division.{up}
+use Rattle.bolts.specs.Loads.{total-load}
 use Rattle.bolts.specs.declared.bolt.Direction.{Direction}
 use Rattle.forces.specs.Shares.{gap}
 use Rattle.forces.specs.Cases.{Case, um, force-read, BeyondAll}
@@ -61,3 +62,12 @@ low-effect {c = c} h d = total (map (low-part h d) (counting 0 (c .opening .anch
 
 abbrev pub high-effect : {S : ℕ} {pos : 0 < S} {c : Case} {k : ℕ} → HighChoice S pos c k → Direction → Fraction
 high-effect {c = c} h d = total (map (high-part h d) (counting 0 (c .opening .anchors)))
+
+-- v is at least every low reading of the effect
+abbrev pub NeverBelowGroup : (S : ℕ) → 0 < S → Case → Direction → ℕ → ℕ → Type 0
+NeverBelowGroup S pos c d k v = (h : LowChoice S pos c k) → AtMost (low-effect h d) (whole v)
+
+-- v is at most a thousandth of the whole load and 1 N above every high reading
+abbrev pub HardlyAboveGroup : (S : ℕ) → 0 < S → Case → Direction → ℕ → ℕ → Type 0
+HardlyAboveGroup S pos c d k v =
+    (h : HighChoice S pos c k) → AtMost (whole v) (plus (high-effect h d) (whole (total-load d (c .bolts) + 1000)))
