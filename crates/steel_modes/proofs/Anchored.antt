@@ -1,9 +1,9 @@
 -- A mode on anchors keeps what every mode owes.
 use mathlib.Core.Path.{refl, sym}
 use mathlib.Core.Bool.{Bool, true, false, cond}
-use Prim.Native.Nat.{ℕ, _+_, _≤_, _<_}
+use Prim.Native.Nat.{ℕ, _≤_, _<_}
 use native.Mathlib.Omega.{arith}
-use Rattle.fractions.specs.Fractions.{Fraction, whole, plus}
+use Rattle.fractions.specs.Fractions.{whole, plus}
 use Rattle.fractions.proofs.Orders.{at-most-trans, plus-rises, at-most-refl}
 use Rattle.influence.specs.Exact.{low-length, high-length}
 use Rattle.bolts.specs.Loads.{total-load}

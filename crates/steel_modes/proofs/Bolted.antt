@@ -1,11 +1,11 @@
 -- A mode on bolts keeps what every mode owes, where its resistance is an exact one rounded down.
 use mathlib.Core.Path.{_≡_, refl, sym, subst}
-use Prim.Native.Nat.{ℕ, _+_, _*_, _/_, _≤_, _<_}
+use Prim.Native.Nat.{ℕ, _/_, _≤_, _<_}
 use native.Mathlib.Omega.{arith}
 use lib.ListN.{length}
 use Rattle.fractions.specs.Fractions.{Fraction, AtMost, whole, plus}
 use Rattle.bolts.specs.Bolts.{bolt-at}
-use Rattle.bolts.specs.Loads.{total-load, load-of}
+use Rattle.bolts.specs.Loads.{total-load}
 use Rattle.bolts.specs.declared.bolt.Direction.{Direction}
 use Rattle.bolts.proofs.Bounds.{load-bound}
 use Rattle.forces.specs.Cases.{Case, Valid}

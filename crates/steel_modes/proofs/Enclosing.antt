@@ -1,18 +1,17 @@
 -- Every case has brackets whose lower length lies beyond the anchor nearest to each bolt.
-use mathlib.Core.List.{List}
 use mathlib.Core.Logic.{⊎-elim}
-use Prim.Native.Nat.{ℕ, zero, suc, _+_, _-_, _*_, _^_, _≤_, _<_}
-use native.Mathlib.Nat.{mul-le-mul-right, mul-le-mul-left}
+use Prim.Native.Nat.{ℕ, zero, suc, _+_, _*_, _≤_, _<_}
+use native.Mathlib.Nat.{mul-le-mul-left}
 use native.Mathlib.Omega.{arith}
 use lib.Dec.{lit<}
 use Rattle.std.proofs.shelf.Tests.{cases-lt}
 use Rattle.std.proofs.shelf.Elements.{all-weaker}
-use Rattle.fractions.specs.Fractions.{Fraction, whole, over}
+use Rattle.fractions.specs.Fractions.{whole, over}
 use Rattle.fractions.proofs.Powers.{pow-two}
-use Rattle.influence.specs.Exact.{Ends, low-length}
+use Rattle.influence.specs.Exact.{low-length}
 use Rattle.bolts.specs.declared.bolt.Bolt.{Bolt}
-use Rattle.forces.specs.Shares.{gap, distances, spread}
-use Rattle.forces.specs.Readings.{spread-of, Beyond}
+use Rattle.forces.specs.Shares.{distances, spread}
+use Rattle.forces.specs.Readings.{Beyond}
 use Rattle.forces.specs.Cases.{Case, Valid, InRange, reach, um, anchor-distances, BeyondAll}
 use Rattle.forces.specs.Exact.{EndsOf}
 use Rattle.forces.specs.declared.opening.Opening.{Opening}

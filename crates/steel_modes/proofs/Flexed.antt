@@ -1,17 +1,15 @@
 -- The bending of the channel keeps what every mode owes.
-use mathlib.Core.Path.{_≡_, refl}
-use Prim.Native.Nat.{ℕ, _+_, _*_, _/_, _≤_, _<_}
+use mathlib.Core.Path.{refl}
+use Prim.Native.Nat.{ℕ, _+_, _*_, _≤_, _<_}
 use native.Mathlib.Nat.{mul-le-mul-right}
 use native.Mathlib.Omega.{arith}
-use lib.ListN.{length, getD}
-use Rattle.std.specs.shelf.Lists.{sumBy}
+use lib.ListN.{length}
 use Rattle.std.proofs.shelf.Elements.{all-from-getD}
 use Rattle.std.proofs.shelf.Sums.{sumBy-le}
-use Rattle.fractions.specs.Fractions.{Fraction, AtMost, whole, plus}
+use Rattle.fractions.specs.Fractions.{AtMost, whole, plus}
 use Rattle.fractions.proofs.Orders.{at-most-trans, plus-rises, whole-rises}
 use Rattle.bolts.specs.Bolts.{bolt-at, no-bolt}
 use Rattle.bolts.specs.Loads.{total-load}
-use Rattle.bolts.specs.declared.bolt.Bolt.{Bolt}
 use Rattle.bolts.specs.declared.bolt.Direction.the-variants.{Tension}
 use Rattle.bolts.proofs.Bounds.{load-bound}
 use Rattle.forces.specs.Cases.{Case, Valid}

@@ -10,7 +10,7 @@ use Rattle.bolts.specs.Bolts.{bolt-at}
 use Rattle.bolts.specs.Loads.{load-of}
 use Rattle.bolts.specs.declared.bolt.Direction.{Direction}
 use Rattle.forces.specs.Cases.{Case, mn}
-use Rattle.failure.specs.Meanings.{Exactly, Readings, Meaning}
+use Rattle.failure.specs.Meanings.{Exactly, Meaning}
 use Rattle.failure.specs.declared.places.Places.{Places}
 use Rattle.failure.specs.declared.places.PlaceKind.the-variants.{Bolts}
 use Rattle.steel_modes.specs.Quotients.{divided}

@@ -1,20 +1,17 @@
 // Ranges, units, and the number at a place.
 ghost use mathlib.Core.Path.{_≡_};
-ghost use mathlib.Core.Bool.{cond, true};
-ghost use Prim.Native.Nat.{_*_, _≤_};
-ghost use lib.Dec.{ltb};
+ghost use mathlib.Core.Bool.{true};
+ghost use Prim.Native.Nat.{_*_};
 ghost use lib.ListN.{length};
 ghost use Rattle.std.specs.declared.option.Option.the-variants.{Some, None};
 ghost use Rattle.bolts.specs.Loads.{load-of};
 ghost use Rattle.bolts.specs.Bolts.{bolt-at};
 ghost use Rattle.forces.specs.Cases.{mn};
-ghost use Rattle.loadcase.specs.Closed.{closed-case};
 ghost use Rattle.failure.specs.Meanings.{at-place};
 ghost use Rattle.steel_modes.specs.Ranges.{value-well, strength-well};
 use crate::design::Characteristic;
 use bolts::bolt::Bolt;
 use bolts::bolt::Direction;
-use loadcase::closed::ClosedCase;
 
 // The least and the greatest characteristic value, in N.
 const LEAST_VALUE: u32 = 1_000;

@@ -1,5 +1,6 @@
-// Failure modes of steel, and of the pull-out of an anchor. The crate promises of each mode what every failure mode
-// owes, with the allowance 0: the quotients are known exactly and rounded once, to the safe side.
+// Failure modes of steel: of anchors, bolts, lips and the bending of the channel; and the pull-out of anchors. The
+// crate promises of each what every failure mode owes, with the allowance 0: a resistance is an exact quotient, rounded
+// down once, and an effect never lies below the exact one.
 pub mod anchor;
 mod arithmetic;
 pub mod bolt;

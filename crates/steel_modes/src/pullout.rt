@@ -1,7 +1,6 @@
 // The pull-out of an anchor.
 ghost use mathlib.Core.Path.{_≡_};
 ghost use mathlib.Core.Bool.{true, _&&_};
-ghost use Prim.Native.Nat.{_*_, _≤_};
 ghost use Rattle.steel_modes.specs.Ranges.{Made, value-well, strength-well};
 ghost use Rattle.steel_modes.specs.Anchored.{pull-out-meaning};
 use crate::arithmetic::at_each;
@@ -67,12 +66,7 @@ pub impl FailureMode for PullOut as PullOutMode {
 
     fn resistance(&self, case: &ClosedCase, place: usize) -> Option<u64> {
         let count = case.opening().anchors as usize;
-        at_each(
-            count,
-            by_strength(self.value, self.strength)
-                .design(self.factor)
-                .value,
-            place,
-        )
+        let design = by_strength(self.value, self.strength).design(self.factor);
+        at_each(count, design.value, place)
     }
 }

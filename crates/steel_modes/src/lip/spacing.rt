@@ -2,9 +2,9 @@
 ghost use mathlib.Core.Path.{_≡_};
 ghost use mathlib.Core.Bool.{true};
 ghost use Prim.Native.Nat.{_+_, _*_, _/_, _<_, _≤_};
-ghost use Rattle.steel_modes.specs.Ranges.{value-well, spacing-well};
 ghost use lib.ListN.{length};
 ghost use Rattle.loadcase.specs.Closed.{closed-case};
+ghost use Rattle.steel_modes.specs.Ranges.{value-well, spacing-well};
 ghost use Rattle.steel_modes.specs.Nearby.{nearest-of};
 ghost use Rattle.steel_modes.specs.Shared.{lip-down};
 use crate::arithmetic::from_newtons;
