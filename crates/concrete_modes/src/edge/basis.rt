@@ -29,12 +29,13 @@ const LEAST_P: u32 = 100;
 
 const MOST_P: u32 = 140;
 
-// The strength under its root in millionths, and the distance under its root in ten-thousandths of a µm.
+// What the strength is multiplied by under its square root, for millionths, and the edge distance in tenths under its
+// cube root, for hundred-thousandths of that in mm.
 const STRENGTH_SCALE: u64 = 1_000_000_000_000;
 
 const DISTANCE_SCALE: u64 = 100_000_000_000_000;
 
-// What both scales leave above mN.
+// What the product of both roots is divided by, for mN.
 const BOTH_SCALES: u64 = 10_000_000_000;
 
 // Whether all numbers are in range.
