@@ -10,6 +10,8 @@
 // Position and spacing are in tenths of a millimetre, loads in N, the inertia in mm⁴. The figures are the influence
 // length in µm and the forces in mN. A refused call changes nothing, and prints the number of the question that was
 // answered no and that of the line. A line that says nothing, or a call with no open case, is not understood.
+#![tactic(auto)]
+
 mod line;
 
 use anyhow::anyhow;

@@ -2,6 +2,8 @@
 // anchor, loads in N. The crate promises that a table holds at most 16 bolts in rising position, 300 tenths or more
 // apart, each with loads in range; that a bolt is placed or lifted exactly as asked, or refused by the first question
 // that it fails, with nothing changed; and that only the making of a table can run out of memory.
+#![tactic(auto)]
+
 pub mod bolt;
 pub mod fault;
 pub mod refusal;

@@ -2,6 +2,8 @@
 // string is either read in place, every number in its range, or refused by the first question that it fails, with the
 // byte where the failing pair or field begins; that what is written reads back as the same numbers; and that a refusal
 // leaves the caller's buffer untouched.
+#![tactic(auto)]
+
 mod asking;
 mod bytes;
 pub mod certificate;

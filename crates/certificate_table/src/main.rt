@@ -2,6 +2,8 @@
 // all the numbers of a certificate, or the question that refuses it and the byte. An empty file stands in the table as a line with one dash.
 // The table and the expected answers come from an implementation of the format in another language, `reference/certificate.py`, so a
 // difference shows that one of the two departs from the documents.
+#![tactic(auto)]
+
 mod answer;
 
 use answer::Answer;

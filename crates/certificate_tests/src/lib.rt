@@ -1,5 +1,7 @@
 // The worked certificate, written out byte by byte, and what the writer refuses. The bytes were set down by hand from
 // the format, field by field.
+#![tactic(auto)]
+
 #[cfg(test)]
 mod tests {
     use certificate::certificate::Certificate;

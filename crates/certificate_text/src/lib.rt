@@ -2,6 +2,8 @@
 // understood line by line, each number under its name, or refused by the first line that is not understood; that the
 // text of a certificate is its numbers under their names; and that this text, where the certificate was read, is
 // understood as the same content.
+#![tactic(auto)]
+
 mod assembly;
 pub mod fault;
 mod line;

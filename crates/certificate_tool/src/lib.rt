@@ -1,6 +1,8 @@
 // What the certificate programs do, on values: a readable text becomes the bytes of a certificate, and the bytes of a
 // certificate become their text. It promises that a certificate made from a text reads as what the text says, and
 // that a refusal names the line of the text, or the question and the byte.
+#![tactic(auto)]
+
 ghost use Rattle.std.specs.Prelude.{◌≡◌};
 ghost use Rattle.certificate_tool.specs.Outcomes.{Makes, Shows};
 

@@ -1,5 +1,7 @@
 // Worked figures that the definitions give, established together: whoever changes a definition has to meet them all.
 // Two of them, which need no load case, are also reckoned by the code.
+#![tactic(auto)]
+
 ghost use Rattle.std.specs.Prelude.{◌≡◌};
 ghost use Rattle.influence.specs.Lengths.{influence_length};
 ghost use Rattle.groups.specs.Weights.{weight};

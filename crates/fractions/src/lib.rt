@@ -1,5 +1,7 @@
 // Fractions of whole numbers, for contracts: what a fraction is, when one is at most another, and what encloses a
 // root. The library has no fractions at run time; it promises the laws that contracts over fractions rest on.
+#![tactic(auto)]
+
 ghost use Rattle.fractions.specs.Laws.{Ordered};
 ghost use Rattle.std.specs.Prelude.{◌≡◌};
 

@@ -1,5 +1,7 @@
 // The influence length of a load on a channel: how far along the channel a load reaches the anchors. It is proved to
 // be at most the exact length, and at most 5 micrometres below it.
+#![tactic(auto)]
+
 ghost use Rattle.std.specs.Prelude.{◌≡◌, ℕ, ◌+◌, ◌-◌, ◌*◌, ◌/◌, ◌^◌, ◌<◌, ◌≤◌, MatchOption};
 ghost use Rattle.influence.specs.Exact.{Ends, NotAbove, NotBelow};
 ghost use Rattle.influence.specs.Lengths.{InRange, StepsTo, influence_length, spacing_root_of, twentieth_root_of};

@@ -1,4 +1,6 @@
 // Makes `channel.cert` in the current folder from a readable text on standard input, reads it back and prints its text.
+#![tactic(auto)]
+
 use anyhow::anyhow;
 use certificate_tool::fault::ToolFault;
 use certificate_tool::{make, show};

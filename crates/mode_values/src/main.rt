@@ -15,6 +15,8 @@
 //
 // Places count from 1. A mode prints `EFFECT RESISTANCE` in mN, for bending in thousandths of a newton-metre; or
 // `no place`, `out of range`, or `refused NUMBER`.
+#![tactic(auto)]
+
 mod figures;
 mod line;
 mod mode;

@@ -10,6 +10,8 @@
 // A rating prints `accepted` or `rejected`, the largest utilisation in ten-thousandths, its line and place, and the first
 // combined check that fails, or 0. A refusal prints `refused`, the number of the question, and the line of the job or,
 // for a certificate, the byte; a refused certificate or first line ends the job.
+#![tactic(auto)]
+
 use anyhow::anyhow;
 use job::printing::rate_job;
 use std::fs;

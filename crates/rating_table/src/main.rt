@@ -2,6 +2,8 @@
 // with a space between; no bytes stand as one dash. It prints what the proved program prints of each, and after it a line
 // with a full stop. The table and the expected text come from an implementation of the rules in another language,
 // `reference/rating.py`, so a difference shows that one of the two departs from the documents.
+#![tactic(auto)]
+
 use anyhow::anyhow;
 use job::printing::rate_job;
 use std::alloc::Global;

@@ -1,5 +1,7 @@
 // Whole roots, rounded down or up: one search by halving, proved once, and the properties that it is used with.
 // And division that rounds up.
+#![tactic(auto)]
+
 mod bisection;
 pub mod division;
 mod powers;

@@ -2,6 +2,8 @@
 // lift, close, reopen, show and rate. The crate promises of every such list what `Promise` says: the answers are those of
 // the bolts placed and not lifted since, every figure shown lies on the safe side of the exact one and close to it, and
 // every verdict is right on the exact figures.
+#![tactic(auto)]
+
 ghost use Rattle.std.specs.Prelude.{[], ◌∷◌};
 ghost use Rattle.history.specs.Promises.{Kept};
 

@@ -1,4 +1,6 @@
 // Prints the text of the certificate `channel.cert` in the current folder.
+#![tactic(auto)]
+
 use anyhow::anyhow;
 use certificate_tool::fault::ToolFault;
 use certificate_tool::show;

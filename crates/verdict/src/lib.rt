@@ -2,6 +2,8 @@
 // whether the channel is accepted. The crate promises that an accepted channel meets every verification exactly, for
 // every choice of brackets, and that a rejected one breaks some verification once effects are raised and resistances
 // lowered by a sliver, for any failure modes that keep their laws.
+#![tactic(auto)]
+
 pub mod answer;
 mod checks;
 pub mod figures;
