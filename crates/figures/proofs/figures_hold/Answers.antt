@@ -29,6 +29,6 @@ pub returns : goal.returns
 returns c =
     record {
       figures = worked;
-      length = c.worked-length.ensures ∙ worked.length;
-      neighbour = c.worked-neighbour.ensures ∙ worked.neighbour;
+      length = c.worked_length.ensures ∙ worked.length;
+      neighbour = c.worked_neighbour.ensures ∙ worked.neighbour;
     }

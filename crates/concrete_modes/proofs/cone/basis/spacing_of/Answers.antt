@@ -10,6 +10,6 @@ pub returns : goal.returns
 returns c =
     let h = c.args.depth in
     let e = c.max.ensures in
-    let u = c.div-up-wide.ensures.value in
+    let u = c.div_up-wide.ensures.value in
     let w = up_le (h * (50400 - 13 * h)) (wide_le h c.requires.0 c.requires.1) in
     record { value = e ∙ ap (λ (n : ℕ). max n (300 * h)) u; some = omega (arith, e, c.requires.0); small = omega (arith, e, u, w, c.requires.1) }

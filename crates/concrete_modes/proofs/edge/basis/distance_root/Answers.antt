@@ -4,5 +4,5 @@ use Rattle.concrete_modes.proofs.edge.basis.distance_root.Goals as goal
 
 pub returns : goal.returns
 returns c =
-    let r = c.cube-root.ensures in
-    record { value = r.value; small = distance_le c.cube-root.result c.args.distance c.requires (omega (arith, r.is.fits)) }
+    let r = c.cube_root.ensures in
+    record { value = r.value; small = distance_le c.cube_root.result c.args.distance c.requires (omega (arith, r.is.fits)) }

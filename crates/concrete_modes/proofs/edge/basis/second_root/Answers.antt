@@ -6,17 +6,17 @@ use Rattle.concrete_modes.proofs.edge.basis.second_root.Goals as goal
 same_value : (k g g' c t t' : ℕ) → g ≡ g' → t ≡ t' → k * g * c * t / 10 ^ 10 ≡ k * g' * c * t' / 10 ^ 10
 same_value k g g' c t t' a b = cc
 
-pub overflow-mul-result-2 : goal.overflow-mul-result-2
-overflow-mul-result-2 c = omega (arith, three_le _ _ _ c.requires.factor c.strength-root-g.ensures.small c.requires.distance)
+pub overflow_mul-result-2 : goal.overflow_mul-result-2
+overflow_mul-result-2 c = omega (arith, three_le _ _ _ c.requires.factor c.strength_root-g.ensures.small c.requires.distance)
 
-pub overflow-mul-result-3 : goal.overflow-mul-result-3
-overflow-mul-result-3 c =
-    omega (arith, four_le _ _ _ c.requires.factor c.strength-root-g.ensures.small c.requires.distance _ c.distance-root-t.ensures.small)
+pub overflow_mul-result-3 : goal.overflow_mul-result-3
+overflow_mul-result-3 c =
+    omega (arith, four_le _ _ _ c.requires.factor c.strength_root-g.ensures.small c.requires.distance _ c.distance_root-t.ensures.small)
 
 pub returns : goal.returns
 returns c =
-    let g = c.strength-root-g.ensures in
-    let t = c.distance-root-t.ensures in
+    let g = c.strength_root-g.ensures in
+    let t = c.distance_root-t.ensures in
     record {
       value = same_value c.args.k _ _ c.args.distance _ _ g.value t.value;
       small = omega (arith, four_le _ _ _ c.requires.factor g.small c.requires.distance _ t.small);

@@ -4,5 +4,5 @@ use Rattle.concrete_modes.proofs.edge.basis.strength_root.Goals as goal
 
 pub returns : goal.returns
 returns c =
-    let r = c.square-root.ensures in
-    record { value = r.value; small = strength_le c.square-root.result c.args.strength c.requires (omega (arith, r.is.fits)) }
+    let r = c.square_root.ensures in
+    record { value = r.value; small = strength_le c.square_root.result c.args.strength c.requires (omega (arith, r.is.fits)) }
