@@ -1,11 +1,3 @@
-pub mod Shared
-pub mod Cone
-pub mod EdgeFirst
-pub mod EdgeSecond
-pub mod Bounds
+pub mod Effects
 pub mod Cones
-pub mod Products
-pub mod Roots
-pub mod Scaled
-pub mod Groups
 pub mod Edges

@@ -10,10 +10,11 @@ use Rattle.bolts.specs.declared.bolt.Direction.TheVariants.{Tension}
 use Rattle.bolts.proofs.Bounds.{load_bound}
 use Rattle.forces.specs.Cases.{Case, Valid}
 use Rattle.failure.specs.Meanings.{LawfulAt, excess}
-use Rattle.failure.proofs.Quotients.{equal_below, down_safe, down_close, down_fits}
-use Rattle.steel_modes.specs.Shared.{proper_factor, divided}
-use Rattle.steel_modes.specs.Flexure.{part_up, part_read, moment_at, moment_read, flexure_meaning}
+use Rattle.steel_modes.specs.Quotients.{proper_factor, divided}
+use Rattle.steel_modes.specs.Spans.{part_up, part_read, moment_at, moment_read}
+use Rattle.steel_modes.specs.Flexed.{flexure_meaning}
 use Rattle.steel_modes.specs.declared.design.PartialFactor.{PartialFactor}
+use Rattle.steel_modes.proofs.Quotients.{equal_below, quotient_safe, quotient_close, quotient_fits}
 use Rattle.steel_modes.proofs.Spans.{sum_covers, sum_near, part_covers, part_near, part_le}
 
 pub tension_le : (c : Case) → Valid c → (k : ℕ) → k < length c.bolts → (bolt_at c.bolts k).tension ≤ 200000
@@ -46,17 +47,17 @@ module _ (c : Case) (v : Valid c) (i : ℕ) where
       let x = moment_read c i in
       record {
         effect_fits = moment_le;
-        resistance_fits = down_fits (n * 100000) f.hundredths f.least (omega arith);
+        resistance_fits = quotient_fits (n * 100000) f.hundredths f.least (omega arith);
         some_low_effect = (moment_read c i, refl);
         some_high_effect = (moment_read c i, refl);
         some_low_resistance = (divided (n * 100000) f, refl);
         some_high_resistance = (divided (n * 100000) f, refl);
         effect_safe = λ q e. equal_below q (moment_read c i) (whole (moment_at c i)) e covers;
-        resistance_safe = λ q e. down_safe (n * 100000) f.hundredths pos q e;
+        resistance_safe = λ q e. quotient_safe (n * 100000) f.hundredths pos q e;
         effect_close = λ _ q e.
             let few : length c.bolts ≤ total_load Tension c.bolts + 1000 = omega (arith, v.few) in
             let le : AtMost (moment_read c i) q = omega arith in
             at_most_trans (whole (moment_at c i)) (plus x (whole (length c.bolts))) (plus q (excess w)) near
             (plus_rises x q (whole (length c.bolts)) (excess w) le (whole_rises _ _ few));
-        resistance_close = λ _ q e. down_close (n * 100000) f.hundredths pos q e 0;
+        resistance_close = λ _ q e. quotient_close (n * 100000) f.hundredths pos q e;
       }

@@ -1,3 +1,4 @@
+pub mod Quotients
 pub mod Enclosing
 pub mod Anchored
 pub mod Bolted

@@ -1,32 +1,35 @@
--- The resistance of the lips is one quotient rounded down, and it fits.
-use Rattle.std.proofs.Common.{◌≡◌, ℕ, ◌+◌, ◌-◌, ◌*◌, ◌/◌, ◌<◌, ◌≤◌, Bool, true, false, cond, ltb, Some, None, Option, refl, ap, ◌∙◌, mul-le-mul_right, mul_comm, arith, ltb-true}
+-- The resistance of the lips is the exact one rounded down, and it fits.
+use Rattle.std.proofs.Common.{◌≡◌, ℕ, ◌+◌, ◌*◌, ◌/◌, ◌<◌, ◌≤◌, Bool, true, false, cond, ltb, Some, None, Option, refl, mul-le-mul_right, arith, ltb-true}
 use native.Mathlib.Nat.{div-div-eq-div-mul, div-le_of_le-mul}
-use Rattle.fractions.specs.Fractions.{Fraction, whole}
-use Rattle.forces.specs.Readings.{quotient}
-use Rattle.steel_modes.specs.Lip.{lip_share, lip_down}
+use Rattle.steel_modes.specs.Shared.{lip_above, lip_below, lip_down}
 use Rattle.steel_modes.specs.declared.design.PartialFactor.{PartialFactor}
+use Rattle.steel_modes.proofs.Quotients.{quotient_fits}
 
--- first the part that counts, down, then the factor, down
-pub one_rounding : (n a b γ : ℕ) → n * a / b / γ ≡ n * a / (γ * b)
-one_rounding n a b γ = div-div-eq-div-mul (n * a) b γ ∙ ap (λ (m : ℕ). n * a / m) (mul_comm b γ)
+module _ (v : ℕ) (f : PartialFactor) (s : ℕ) where
+  pub lip_rounds : (o : Option ℕ) → lip_down v f s o ≡ lip_above v s o / lip_below f s o
+  lip_rounds None = refl
+  lip_rounds (Some d) = step (ltb d s)
+    where
+      step : (t : Bool) → cond t (v * 100000 * (s + d) / f.hundredths / (2 * s)) (v * 100000 / f.hundredths) ≡ cond t (v * 100000 * (s + d)) (v * 100000) / cond t (f.hundredths * (2 * s)) f.hundredths
+      step true = div-div-eq-div-mul (v * 100000 * (s + d)) f.hundredths (2 * s)
+      step false = refl
 
--- a part of at most one
-abbrev Part : Fraction → Type 0
-Part x = x.above ≤ x.below
+  module _ (small : v ≤ 500000) where
+    whole_fits : v * 100000 / f.hundredths ≤ 2000000000
+    whole_fits = quotient_fits (v * 100000) f.hundredths f.least (omega arith)
 
-share_part : (s : ℕ) (o : Option ℕ) → Part (lip_share s o)
-share_part s None = omega arith
-share_part s (Some d) = step (ltb d s) (ltb-true d s)
-  where
-    step : (t : Bool) → (t ≡ true → d < s) → Part (cond t (quotient (s + d) (2 * s)) (whole 1))
-    step true h = let l = h refl in omega arith
-    step false h = omega arith
+    shared_fits : (d : ℕ) → d < s → v * 100000 * (s + d) / f.hundredths / (2 * s) ≤ 2000000000
+    shared_fits d less =
+        let n : v * 100000 * (s + d) ≤ 50000000000 * (2 * s) =
+        omega (arith, mul-le-mul_right (s + d) small) in
+        let inner : v * 100000 * (s + d) / f.hundredths ≤ 2000000000 * (2 * s) =
+        div-le_of_le-mul f.hundredths (omega (arith, mul-le-mul_right (2 * s) f.least)) in
+        div-le_of_le-mul (2 * s) (omega arith)
 
-part_fits : (n γ : ℕ) (x : Fraction) → n ≤ 50000000000 → 100 ≤ γ → Part x → n * x.above / (γ * x.below) ≤ 2000000000
-part_fits n γ x small least part =
-    let a : n * x.above ≤ 50000000000 * x.above = mul-le-mul_right x.above small in
-    let b : 100 * x.below ≤ γ * x.below = mul-le-mul_right x.below least in
-    div-le_of_le-mul (γ * x.below) (omega arith)
-
-pub lip_fits : (v : ℕ) (f : PartialFactor) (s : ℕ) → v ≤ 500000 → (o : Option ℕ) → lip_down v f s o ≤ 2000000000
-lip_fits v f s small o = part_fits (v * 100000) f.hundredths (lip_share s o) (omega arith) f.least (share_part s o)
+    pub lip_fits : (o : Option ℕ) → lip_down v f s o ≤ 2000000000
+    lip_fits None = whole_fits
+    lip_fits (Some d) = step (ltb d s) (ltb-true d s)
+      where
+        step : (t : Bool) → (t ≡ true → d < s) → cond t (v * 100000 * (s + d) / f.hundredths / (2 * s)) (v * 100000 / f.hundredths) ≤ 2000000000
+        step true h = shared_fits d (h refl)
+        step false h = whole_fits

@@ -1,5 +1,5 @@
 -- The moment at a bolt against the exact one, and its bound.
-use Rattle.std.proofs.Common.{◌≡◌, ℕ, ◌+◌, ◌-◌, ◌*◌, ◌%◌, ◌<◌, ◌≤◌, min, max, Bool, true, false, cond, List, [], ◌∷◌, map, length, sum_by, mul-le-mul, arith}
+use Rattle.std.proofs.Common.{◌≡◌, ℕ, ◌+◌, ◌-◌, ◌*◌, ◌%◌, ◌<◌, ◌≤◌, min, Bool, true, false, cond, List, [], ◌∷◌, map, length, sum_by, mul-le-mul, arith}
 use native.Mathlib.Nat.{div-le_of_le-mul}
 use Rattle.std.proofs.lemmas.List.Sums.{sum_by-cons}
 use Rattle.fractions.specs.Fractions.{Fraction, AtMost, whole, plus, total}
@@ -9,7 +9,7 @@ use Rattle.roots.specs.Division.{up}
 use Rattle.forces.specs.Readings.{quotient}
 use Rattle.forces.specs.Cases.{um, mn}
 use Rattle.roots.proofs.Quotients.{up_least, up_most}
-use Rattle.steel_modes.specs.Flexure.{offset, same_span, part_above, part_below, part_up, part_read}
+use Rattle.steel_modes.specs.Spans.{greater, offset, same_span, part_above, part_below, part_up, part_read}
 
 shuffle : (r R : Fraction) (m n v : ℕ) → AtMost (whole v) (plus (plus r (whole m)) (plus R (whole n))) → AtMost (whole v) (plus (plus r R) (whole (m + n)))
 shuffle r R m n v h = omega arith
@@ -76,5 +76,5 @@ module _ (s : ℕ) (wide : 500 ≤ s) (a b : Bolt) where
         step : (t : Bool) → cond t (up (part_above s a b) (part_below s)) 0 ≤ 50000001
         step true =
             up_le (part_above s a b) (part_below s) 50000000 below_pos
-            (above_le (mn b.tension) (min (offset s a) (offset s b)) (um s - max (offset s a) (offset s b)) (omega arith) (omega (arith, offset_le a.position)) (omega arith))
+            (above_le (mn b.tension) (min (offset s a) (offset s b)) (um s - greater (offset s a) (offset s b)) (omega arith) (omega (arith, offset_le a.position)) (omega arith))
         step false = omega arith

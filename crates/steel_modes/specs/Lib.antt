@@ -1,7 +1,9 @@
 pub mod Ranges
+pub mod Quotients
+pub mod Anchored
+pub mod Bolted
+pub mod Nearby
 pub mod Shared
-pub mod AnchorSteel
-pub mod BoltSteel
-pub mod Lip
-pub mod PullOut
-pub mod Flexure
+pub mod Lips
+pub mod Spans
+pub mod Flexed

@@ -35,7 +35,13 @@ invariant_of-self c =
     let s = c.args.self.now.spaced in
     let spaced = spaced_inserted _ _ _ s (belongs c) (is_clear c) in
     let sound = sound_inserted _ _ _ s (belongs c) (is_clear c) _ c.args.self.now.sound c.if-bolt-self.false (is_loaded c) in
-    (search rules, (search rules, (search rules, (subst Spaced (sym (went_in c)) spaced, (subst (Sound _) (sym (went_in c)) sound, tt)))))
+    record {
+      short = search rules;
+      few = search rules;
+      room = search rules;
+      spaced = subst Spaced (sym (went_in c)) spaced;
+      sound = subst (Sound _) (sym (went_in c)) sound;
+    }
 
 pub returns : goal.returns
 returns c =

@@ -1,7 +1,7 @@
 use Rattle.std.proofs.Common.{◌*◌, ◌≤◌, mul-le-mul, arith}
 use Rattle.std.proofs.lemmas.Bool.Decides.{nat_tests}
 use Rattle.bolts.specs.declared.bolt.Direction.TheVariants.{Tension}
-use Rattle.failure.specs.Places.{on_anchors}
+use Rattle.steel_modes.specs.Anchored.{on_anchors}
 use Rattle.steel_modes.specs.declared.pullout.PullOut.{PullOut}
 use Rattle.steel_modes.proofs.Anchored.{force_lawful}
 use Rattle.steel_modes.proofs.pullout.PullOutFailureMode.TheImpl.Goals as goal
