@@ -15,7 +15,7 @@ use Rattle.groups.specs.declared.spacing.CharacteristicSpacing.{CharacteristicSp
 use Rattle.groups.proofs.Effects.{effect_covers, effect_near}
 use Rattle.steel_modes.specs.Quotients.{proper_factor}
 use Rattle.steel_modes.specs.declared.design.PartialFactor.{PartialFactor}
-use Rattle.steel_modes.proofs.Quotients.{equal_below, equal_above}
+use Rattle.steel_modes.specs.QuotientLemmas.{equal_below, equal_above}
 use Rattle.concrete.specs.Cone.{cone_resistance, LowCone, HighCone, low_cone, high_cone}
 use Rattle.concrete.proofs.Cone.{cone_safe, cone_close}
 use Rattle.concrete_modes.specs.Cones.{cone_meaning, square_of, value_of}

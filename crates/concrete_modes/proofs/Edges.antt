@@ -13,7 +13,7 @@ use Rattle.groups.specs.declared.spacing.CharacteristicSpacing.{CharacteristicSp
 use Rattle.groups.proofs.Effects.{effect_covers, effect_near}
 use Rattle.steel_modes.specs.Quotients.{proper_factor}
 use Rattle.steel_modes.specs.declared.design.PartialFactor.{PartialFactor}
-use Rattle.steel_modes.proofs.Quotients.{equal_below, equal_above, quotient_fits}
+use Rattle.steel_modes.specs.QuotientLemmas.{equal_below, equal_above, quotient_fits}
 use Rattle.concrete.specs.Edge.{edge_resistance}
 use Rattle.concrete_modes.specs.Edges.{edge_meaning}
 use Rattle.concrete_modes.proofs.Groups.{effect_le, low_choice, high_choice}

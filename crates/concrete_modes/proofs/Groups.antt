@@ -10,7 +10,7 @@ use Rattle.forces.specs.Exact.{force}
 use Rattle.forces.proofs.Exactness.{bounded}
 use Rattle.groups.specs.Groups.{weight_on, part, group_effect, LowChoice, HighChoice}
 use Rattle.groups.proofs.Weights.{weight_on_small}
-use Rattle.steel_modes.proofs.Enclosing.{ends_of, beyond_all}
+use Rattle.steel_modes.specs.Enclosing.{ends_of, beyond_all}
 
 scaled : (f g : ℕ → ℕ) (xs : List ℕ) → ((x : ℕ) → f x ≤ g x) → 1000000 * sum_by f xs ≤ sum_by (λ x. 1000000 * g x) xs
 scaled f g [] h = omega arith

@@ -7,3 +7,11 @@ pub mod Shared
 pub mod Lips
 pub mod Spans
 pub mod Flexed
+pub mod QuotientLemmas
+pub mod Enclosing
+pub mod AnchoredLemmas
+pub mod BoltedLemmas
+pub mod LipLemmas
+pub mod SpanLemmas
+pub mod FlexedLemmas
+pub mod Laws

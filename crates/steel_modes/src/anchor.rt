@@ -39,9 +39,11 @@ impl AnchorSteel {
 }
 
 impl FailureMode for AnchorSteel {
+    ghost use Rattle.steel_modes.specs.Laws.{anchor_steel_lawful};
+
     ghost meaning = { λ m c. anchor_steel_meaning m.direction m.value m.factor c };
 
-    ghost lawful = { first_of (Prim.search rules, Prim.grind (arith, Self.row.coded.inj)) };
+    ghost lawful = { λ m. anchor_steel_lawful m.direction m.value m.factor m.ranged };
 
     ghost few = { first_of (Prim.search rules, Prim.grind (arith, Self.row.coded.inj)) };
 

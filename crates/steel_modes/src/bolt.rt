@@ -38,9 +38,11 @@ impl BoltSteel {
 }
 
 impl FailureMode for BoltSteel {
+    ghost use Rattle.steel_modes.specs.Laws.{bolt_steel_lawful};
+
     ghost meaning = { λ m c. bolt_steel_meaning m.direction m.value m.factor c };
 
-    ghost lawful = { first_of (Prim.search rules, Prim.grind (arith, Self.row.coded.inj)) };
+    ghost lawful = { λ m. bolt_steel_lawful m.direction m.value m.factor m.ranged };
 
     ghost few = { first_of (Prim.search rules, Prim.grind (arith, Self.row.coded.inj)) };
 

@@ -36,9 +36,11 @@ impl Flexure {
 }
 
 impl FailureMode for Flexure {
+    ghost use Rattle.steel_modes.specs.Laws.{flexure_keeps};
+
     ghost meaning = { λ m c. flexure_meaning m.value m.factor c };
 
-    ghost lawful = { first_of (Prim.search rules, Prim.grind (arith, Self.row.coded.inj)) };
+    ghost lawful = { λ m. flexure_keeps m.value m.factor m.ranged };
 
     ghost few = { first_of (Prim.search rules, Prim.grind (arith, Self.row.coded.inj)) };
 

@@ -50,9 +50,11 @@ impl Lip {
 }
 
 impl FailureMode for Lip {
+    ghost use Rattle.steel_modes.specs.Laws.{lip_lawful};
+
     ghost meaning = { λ m c. lip_meaning m.direction m.value m.factor m.spacing c };
 
-    ghost lawful = { first_of (Prim.search rules, Prim.grind (arith, Self.row.coded.inj)) };
+    ghost lawful = { λ m. lip_lawful m.direction m.value m.factor m.spacing m.ranged };
 
     ghost few = { first_of (Prim.search rules, Prim.grind (arith, Self.row.coded.inj)) };
 

@@ -40,9 +40,11 @@ impl PullOut {
 }
 
 impl FailureMode for PullOut {
+    ghost use Rattle.steel_modes.specs.Laws.{pull_out_lawful};
+
     ghost meaning = { λ m c. pull_out_meaning m.value m.strength m.factor c };
 
-    ghost lawful = { first_of (Prim.search rules, Prim.grind (arith, Self.row.coded.inj)) };
+    ghost lawful = { λ m. pull_out_lawful m.value m.strength m.factor m.ranged m.strong };
 
     ghost few = { first_of (Prim.search rules, Prim.grind (arith, Self.row.coded.inj)) };
 

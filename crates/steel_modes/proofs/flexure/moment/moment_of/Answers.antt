@@ -4,7 +4,7 @@ use Rattle.std.proofs.lemmas.List.Sums.{sum_by_more}
 use Rattle.bolts.specs.Bolts.{bolt_at, no_bolt}
 use Rattle.bolts.specs.declared.bolt.Bolt.{Bolt}
 use Rattle.steel_modes.specs.Spans.{part_up}
-use Rattle.steel_modes.proofs.Spans.{part_le}
+use Rattle.steel_modes.specs.SpanLemmas.{part_le}
 use Rattle.steel_modes.proofs.flexure.moment.moment_of.Goals as goal
 use Rattle.steel_modes.proofs.flexure.moment.moment_of.Goals.{After-part-sum}
 

@@ -13,8 +13,8 @@ use Rattle.failure.specs.declared.places.Places.{Places}
 use Rattle.steel_modes.specs.Quotients.{proper_factor, divided}
 use Rattle.steel_modes.specs.Anchored.{force_meaning, on_anchors, nowhere}
 use Rattle.steel_modes.specs.declared.design.PartialFactor.{PartialFactor}
-use Rattle.steel_modes.proofs.Quotients.{equal_below, quotient_safe, quotient_close, quotient_fits}
-use Rattle.steel_modes.proofs.Enclosing.{ends_of, beyond_all}
+use Rattle.steel_modes.specs.QuotientLemmas.{equal_below, quotient_safe, quotient_close, quotient_fits}
+use Rattle.steel_modes.specs.Enclosing.{ends_of, beyond_all}
 
 pub force_lawful : (p : Places) (d : Direction) (n : ℕ) (f : PartialFactor) (c : Case) → Valid c → n ≤ 200000000000 → (i : ℕ) → i < c.opening.anchors
     → LawfulAt (total_load d c.bolts) (force_meaning p d n f c) i

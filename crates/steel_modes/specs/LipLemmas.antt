@@ -3,7 +3,7 @@ use Rattle.std.proofs.Common.{◌≡◌, ℕ, ◌+◌, ◌*◌, ◌/◌, ◌<◌
 use native.Mathlib.Nat.{div-div-eq-div-mul, div-le_of_le-mul}
 use Rattle.steel_modes.specs.Shared.{lip_above, lip_below, lip_down}
 use Rattle.steel_modes.specs.declared.design.PartialFactor.{PartialFactor}
-use Rattle.steel_modes.proofs.Quotients.{quotient_fits}
+use Rattle.steel_modes.specs.QuotientLemmas.{quotient_fits}
 
 module _ (v : ℕ) (f : PartialFactor) (s : ℕ) where
   pub lip_rounds : (o : Option ℕ) → lip_down v f s o ≡ lip_above v s o / lip_below f s o

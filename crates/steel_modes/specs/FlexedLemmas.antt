@@ -14,8 +14,8 @@ use Rattle.steel_modes.specs.Quotients.{proper_factor, divided}
 use Rattle.steel_modes.specs.Spans.{part_up, part_read, moment_at, moment_read}
 use Rattle.steel_modes.specs.Flexed.{flexure_meaning}
 use Rattle.steel_modes.specs.declared.design.PartialFactor.{PartialFactor}
-use Rattle.steel_modes.proofs.Quotients.{equal_below, quotient_safe, quotient_close, quotient_fits}
-use Rattle.steel_modes.proofs.Spans.{sum_covers, sum_near, part_covers, part_near, part_le}
+use Rattle.steel_modes.specs.QuotientLemmas.{equal_below, quotient_safe, quotient_close, quotient_fits}
+use Rattle.steel_modes.specs.SpanLemmas.{sum_covers, sum_near, part_covers, part_near, part_le}
 
 pub tension_le : (c : Case) → Valid c → (k : ℕ) → k < length c.bolts → (bolt_at c.bolts k).tension ≤ 200000
 tension_le c v k h = load_bound Tension (bolt_at c.bolts k) (v.sound k h).1

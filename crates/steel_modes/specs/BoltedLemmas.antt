@@ -8,7 +8,7 @@ use Rattle.bolts.proofs.Bounds.{load_bound}
 use Rattle.forces.specs.Cases.{Case, Valid}
 use Rattle.failure.specs.Meanings.{LawfulAt, shortfall}
 use Rattle.steel_modes.specs.Bolted.{load_meaning, load_at}
-use Rattle.steel_modes.proofs.Quotients.{quotient_safe, quotient_close}
+use Rattle.steel_modes.specs.QuotientLemmas.{quotient_safe, quotient_close}
 
 pub load_lawful : (d : Direction) (c : Case) → Valid c → (r : ℕ → ℕ) (x : ℕ → Fraction) (i : ℕ) → i < length c.bolts → r i ≤ 2000000000 → r i ≡ (x i).above / (x i).below
     → LawfulAt (total_load d c.bolts) (load_meaning d c r x) i
