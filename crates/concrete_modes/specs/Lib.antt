@@ -1,3 +1,10 @@
 pub mod Effects
 pub mod Cones
 pub mod Edges
+pub mod Squares
+pub mod Sizes
+pub mod Groups
+pub mod ConeLemmas
+pub mod EdgeLemmas
+pub mod Values
+pub mod Laws

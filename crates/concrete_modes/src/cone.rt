@@ -57,9 +57,11 @@ impl Cone {
 }
 
 impl FailureMode for Cone {
+    ghost use Rattle.concrete_modes.specs.Laws.{cone_keeps};
+
     ghost meaning = { λ m c. cone_meaning m.direction m.spacing m.basis m.factor c };
 
-    ghost lawful = { first_of (Prim.search rules, Prim.grind (arith, Self.row.coded.inj)) };
+    ghost lawful = { λ m. cone_keeps m.basis m.ranged m.direction m.spacing m.factor };
 
     ghost few = { first_of (Prim.search rules, Prim.grind (arith, Self.row.coded.inj)) };
 

@@ -45,9 +45,11 @@ impl FirstEdge {
 }
 
 impl FailureMode for FirstEdge {
+    ghost use Rattle.concrete_modes.specs.Laws.{first_keeps};
+
     ghost meaning = { λ m c. first_meaning m.spacing m.basis m.factor c };
 
-    ghost lawful = { first_of (Prim.search rules, Prim.grind (arith, Self.row.coded.inj)) };
+    ghost lawful = { λ m. first_keeps m.basis m.ranged m.spacing m.factor };
 
     ghost few = { first_of (Prim.search rules, Prim.grind (arith, Self.row.coded.inj)) };
 

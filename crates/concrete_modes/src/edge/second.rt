@@ -45,9 +45,11 @@ impl SecondEdge {
 }
 
 impl FailureMode for SecondEdge {
+    ghost use Rattle.concrete_modes.specs.Laws.{second_keeps};
+
     ghost meaning = { λ m c. second_meaning m.spacing m.basis m.factor c };
 
-    ghost lawful = { first_of (Prim.search rules, Prim.grind (arith, Self.row.coded.inj)) };
+    ghost lawful = { λ m. second_keeps m.basis m.ranged m.spacing m.factor };
 
     ghost few = { first_of (Prim.search rules, Prim.grind (arith, Self.row.coded.inj)) };
 

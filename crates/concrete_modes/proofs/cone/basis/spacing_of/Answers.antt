@@ -1,6 +1,6 @@
 use Rattle.std.proofs.Common.{◌≡◌, ℕ, ◌-◌, ◌*◌, ◌<◌, ◌≤◌, max, ap, ◌∙◌, arith}
 use Rattle.roots.specs.Division.{up}
-use Rattle.concrete_modes.proofs.Squares.{wide_le}
+use Rattle.concrete_modes.specs.Squares.{wide_le}
 use Rattle.concrete_modes.proofs.cone.basis.spacing_of.Goals as goal
 
 up_le : (n : ℕ) → n ≤ 113000000 → up n 90 ≤ 1300000

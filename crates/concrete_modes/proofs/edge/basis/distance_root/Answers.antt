@@ -1,6 +1,6 @@
 use Rattle.std.proofs.Common.{ℕ, ◌*◌, ◌^◌, ap, ◌∙◌, arith}
 use Rattle.roots.specs.Roots.{cube_root_of}
-use Rattle.concrete_modes.proofs.Sizes.{distance_le}
+use Rattle.concrete_modes.specs.Sizes.{distance_le}
 use Rattle.concrete_modes.proofs.edge.basis.distance_root.Goals as goal
 
 pub returns : goal.returns

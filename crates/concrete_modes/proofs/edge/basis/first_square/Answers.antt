@@ -1,6 +1,6 @@
 use Rattle.std.proofs.Common.{◌*◌, ◌≤◌, arith}
 use Rattle.std.proofs.lemmas.Bool.Decides.{nat_tests}
-use Rattle.concrete_modes.proofs.Sizes.{cubed_le}
+use Rattle.concrete_modes.specs.Sizes.{cubed_le}
 use Rattle.concrete_modes.proofs.edge.basis.first_square.Goals as goal
 
 pub overflow_mul-result-5 : goal.overflow_mul-result-5

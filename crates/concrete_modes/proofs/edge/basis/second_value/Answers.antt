@@ -1,7 +1,7 @@
 use Rattle.std.proofs.Common.{◌≡◌, ℕ, ◌*◌, ◌/◌, ◌^◌, ◌≤◌, arith}
 use Rattle.std.proofs.lemmas.Bool.Decides.{nat_tests}
 use Rattle.concrete.specs.Edge.{edge_second, strength_root, distance_root}
-use Rattle.concrete_modes.proofs.Sizes.{three_le, four_le}
+use Rattle.concrete_modes.specs.Sizes.{three_le, four_le}
 use Rattle.concrete_modes.proofs.edge.basis.second_value.Goals as goal
 
 same_value : (k k' g g' c c' t t' : ℕ) → k ≡ k' → g ≡ g' → c ≡ c' → t ≡ t' → k * g * c * t / 10 ^ 10 ≡ k' * g' * c' * t' / 10 ^ 10

@@ -1,6 +1,6 @@
 use Rattle.std.proofs.Common.{ℕ, ◌*◌, ◌^◌, ap, ◌∙◌, arith}
 use Rattle.roots.specs.Roots.{square_root_of}
-use Rattle.concrete_modes.proofs.Sizes.{strength_le}
+use Rattle.concrete_modes.specs.Sizes.{strength_le}
 use Rattle.concrete_modes.proofs.edge.basis.strength_root.Goals as goal
 
 pub returns : goal.returns

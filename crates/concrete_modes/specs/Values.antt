@@ -17,8 +17,8 @@ use Rattle.concrete.specs.Edge.{edge_first, edge_second, edge_square, strength_r
 use Rattle.concrete.proofs.Edge.{second_safe, second_close}
 use Rattle.concrete_modes.specs.Edges.{first_meaning, second_meaning}
 use Rattle.concrete_modes.specs.declared.edge.EdgeBasis.{EdgeBasis}
-use Rattle.concrete_modes.proofs.Edges.{edge_lawful}
-use Rattle.concrete_modes.proofs.Sizes.{strength_le, distance_le, four_le, square_le, root_le, scaled_le}
+use Rattle.concrete_modes.specs.EdgeLemmas.{edge_lawful}
+use Rattle.concrete_modes.specs.Sizes.{strength_le, distance_le, four_le, square_le, root_le, scaled_le}
 
 abbrev nearly : Fraction
 nearly = over 999990 1000000 (lit< tt)

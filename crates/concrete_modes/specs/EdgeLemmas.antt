@@ -16,7 +16,7 @@ use Rattle.steel_modes.specs.declared.design.PartialFactor.{PartialFactor}
 use Rattle.steel_modes.specs.QuotientLemmas.{equal_below, equal_above, quotient_fits}
 use Rattle.concrete.specs.Edge.{edge_resistance}
 use Rattle.concrete_modes.specs.Edges.{edge_meaning}
-use Rattle.concrete_modes.proofs.Groups.{effect_le, low_choice, high_choice}
+use Rattle.concrete_modes.specs.Groups.{effect_le, low_choice, high_choice}
 
 scaled_safe : (x p γ : ℕ) (pos : 0 < γ) (r : Fraction) → AtMost (whole x) r → AtMost (whole (x * p / γ)) (times (over p γ pos) r)
 scaled_safe x p γ pos r h = omega (arith, mul-le-mul_right r.below (div-mul-le_self (x * p) γ), mul-le-mul_left p h)

@@ -20,7 +20,7 @@ use Rattle.concrete.specs.Cone.{cone_resistance, LowCone, HighCone, low_cone, hi
 use Rattle.concrete.proofs.Cone.{cone_safe, cone_close}
 use Rattle.concrete_modes.specs.Cones.{cone_meaning, square_of, value_of}
 use Rattle.concrete_modes.specs.declared.cone.ConeBasis.{ConeBasis}
-use Rattle.concrete_modes.proofs.Groups.{effect_le, low_choice, high_choice}
+use Rattle.concrete_modes.specs.Groups.{effect_le, low_choice, high_choice}
 
 low_root : (N : ℕ) → LowCone N
 low_root N = record { root = whole 0; is_low = omega arith }
