@@ -12,7 +12,7 @@ import re
 import sys
 
 TOKEN = re.compile(r"[^\s(){}\[\];,.|@`\"λ]+")
-NAME = re.compile(r"\b[a-z][a-z0-9]*(?:_[a-z0-9]+)+\b")
+NAME = re.compile(r"\b(?:[a-z][a-z0-9]*(?:_[a-z0-9]+)+|[A-Z][A-Z0-9]*(?:_[A-Z0-9]+)+)\b")
 OWN = ["in-err", "in-ok", "in-default", "type-inv", "invariant-of", "slice-bounds", "offset-bounds", "overflow-add", "overflow-sub", "overflow-mul", "overflow-shl", "overflow-shr", "overflow-cast", "overflow-step", "nonzero-div", "nonzero-rem", "from-residual"]
 
 

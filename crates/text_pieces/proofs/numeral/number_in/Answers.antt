@@ -2,7 +2,7 @@ use Rattle.std.proofs.Common.{◌-◌, ◌≤◌, length, get_or, inl, inr, arit
 use Rattle.text_pieces.proofs.Written.{decimal_back}
 use Rattle.text_pieces.proofs.DigitRuns.{wrong_length, no_digit, digits_more, read_more, read_all, below_more, below_nine}
 use Rattle.text_pieces.proofs.numeral.number_in.Goals as goal
-use Rattle.text_pieces.proofs.numeral.number_in.Goals.{then-is_empty-via-then-is_empty, then-is_empty-via-else-is_empty+then-bytes-gt-MOST-DIGITS}
+use Rattle.text_pieces.proofs.numeral.number_in.Goals.{then-is_empty-via-then-is_empty, then-is_empty-via-else-is_empty+then-bytes-gt-MOST_DIGITS}
 use Rattle.text_pieces.proofs.numeral.number_in.Goals.{then-byte-lt48-via-then-byte-lt48, then-byte-lt48-via-else-byte-lt48+then-byte-gt57}
 
 pub returns-then-is_empty : goal.returns-then-is_empty
@@ -10,7 +10,7 @@ returns-then-is_empty c =
     record {
       value = wrong_length c.args.bytes.now (elim c.then-is_empty.branch [
         | then-is_empty-via-then-is_empty w ↦ inl (search rules)
-        | then-is_empty-via-else-is_empty+then-bytes-gt-MOST-DIGITS w ↦ inr w.if-bytes-gt-MOST-DIGITS.true
+        | then-is_empty-via-else-is_empty+then-bytes-gt-MOST_DIGITS w ↦ inr w.if-bytes-gt-MOST_DIGITS.true
       ]);
       decimals = decimal_back;
     }
@@ -48,6 +48,6 @@ pub returns : goal.returns
 returns c =
     let some : 1 ≤ length c.args.bytes.now = search rules in
     record {
-      value = read_all c.args.bytes.now c.loop-byte.byte-index c.loop-byte.number c.loop-byte.invariant.0 c.loop-byte.invariant.1 c.loop-byte-test.false some c.if-bytes-gt-MOST-DIGITS.false;
+      value = read_all c.args.bytes.now c.loop-byte.byte-index c.loop-byte.number c.loop-byte.invariant.0 c.loop-byte.invariant.1 c.loop-byte-test.false some c.if-bytes-gt-MOST_DIGITS.false;
       decimals = decimal_back;
     }
