@@ -1,24 +1,21 @@
 -- The forces of a whole case against their exact readings, and their bounds.
-use Rattle.std.proofs.Common.{◌≡◌, ℕ, ◌+◌, ◌-◌, ◌*◌, ◌<◌, ◌≤◌, true, List, [], ◌∷◌, map, length, get_or, sum_by, sym, refl, ap, ◌∙◌, le_trans, mul-le-mul_right, mul-le-mul_left, arith}
+use Rattle.std.proofs.Common.{◌≡◌, ℕ, ◌+◌, ◌-◌, ◌*◌, ◌<◌, ◌≤◌, true, List, [], ◌∷◌, map, length, get_or, sum_by, ap, mul-le-mul_right, arith}
 use Rattle.std.specs.List.{range_with_len, AllByRecursion as All}
-use Rattle.std.proofs.lemmas.List.FromFn.{length-range_with_len, get_or-range_with_len}
-use Rattle.std.proofs.ByRecursion.{All-from_get_or, All-weaker, sum_by_le}
+use Rattle.std.proofs.ByRecursion.{All-from_get_or, sum_by_le}
 use Rattle.std.proofs.lemmas.Bool.{leb-true, and_parts}
-use Rattle.std.proofs.lemmas.List.Sums.{sum_by-cons, get_or-le-sum_by}
+use Rattle.std.proofs.lemmas.List.Sums.{sum_by-cons}
 use Rattle.fractions.specs.Fractions.{Fraction, AtMost, whole, plus, total}
 use Rattle.fractions.proofs.Totals.{plus_whole, whole_plus}
-use Rattle.fractions.proofs.Orders.{at_most_trans, plus_rises, at_most_refl, whole_rises}
 use Rattle.bolts.specs.Bolts.{Sound, no_bolt}
 use Rattle.bolts.specs.Loads.{load_of, loaded, total_load}
 use Rattle.bolts.specs.declared.bolt.Bolt.{Bolt}
 use Rattle.bolts.specs.declared.bolt.Direction.{Direction}
 use Rattle.bolts.specs.declared.bolt.Direction.TheVariants.{Tension, Shear}
-use Rattle.forces.specs.Shares.{gap, distances, share}
-use Rattle.forces.specs.Readings.{reading, Beyond}
-use Rattle.forces.specs.Cases.{Case, Valid, InRange, reach, um, mn, anchor_distances, anchor_distance, share_by, force_by, share_read, force_read, BeyondAll}
+use Rattle.forces.specs.Readings.{Beyond}
+use Rattle.forces.specs.Cases.{InRange, reach, um, anchor_distances, share_by, share_read}
 use Rattle.forces.specs.declared.opening.Opening.{Opening}
 use Rattle.forces.proofs.Accuracy.{share_covers, share_near}
-use Rattle.forces.proofs.Sums.{sum_by_swap, shares_le, weighted_le}
+use Rattle.forces.proofs.Sums.{sum_by_swap, shares_le}
 
 shuffle : (r R : Fraction) (m n v : ℕ) → AtMost (whole v) (plus (plus r (whole m)) (plus R (whole n))) → AtMost (whole v) (plus (plus r R) (whole (m + n)))
 shuffle r R m n v h = omega arith

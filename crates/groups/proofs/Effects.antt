@@ -1,9 +1,9 @@
 -- The group effect is never below its low readings, and hardly above its high ones.
-use Rattle.std.proofs.Common.{◌≡◌, ℕ, ◌+◌, ◌-◌, ◌*◌, ◌<◌, ◌≤◌, Bool, true, false, cond, eqb, List, [], ◌∷◌, map, length, sum_by, sym, refl, ap, ◌∙◌, mul-le-mul_right, mul-le-mul, mul-le-mul_left, mul-pos, le_of_mul-le-mul_right, arith, lit<}
+use Rattle.std.proofs.Common.{◌≡◌, ℕ, ◌+◌, ◌-◌, ◌*◌, ◌<◌, ◌≤◌, Bool, true, false, cond, eqb, List, [], ◌∷◌, map, length, sum_by, refl, ap, mul-le-mul_right, mul-le-mul_left, le_of_mul-le-mul_right, arith, lit<}
 use Rattle.std.specs.List.{range_with_len, AllByRecursion as All}
 use Rattle.std.proofs.lemmas.List.Sums.{sum_by-cons}
 use Rattle.std.proofs.lemmas.List.FromFn.{length-range_with_len}
-use Rattle.fractions.specs.Fractions.{Fraction, AtMost, whole, over, plus, times, total}
+use Rattle.fractions.specs.Fractions.{Fraction, AtMost, whole, plus, times, total}
 use Rattle.fractions.proofs.Totals.{plus_whole}
 use Rattle.influence.specs.Lengths as lengths
 use Rattle.influence.specs.Exact.{low_length, high_length}
@@ -18,7 +18,7 @@ use Rattle.forces.proofs.Exactness.{accurate, forces_sum}
 use Rattle.forces.proofs.Weighted.{weighted, high_read, common, below_same, forces_near}
 use Rattle.forces.proofs.Whole.{positions}
 use Rattle.forces.specs.declared.opening.Opening.{Opening}
-use Rattle.groups.specs.Weights.{weight, left, LowWeight, HighWeight, low_weight, high_weight}
+use Rattle.groups.specs.Weights.{weight, low_weight, high_weight}
 use Rattle.groups.specs.Groups.{apart, weight_on, part, group_effect, own_or, LowChoice, HighChoice, low_part, high_part, low_effect, high_effect}
 use Rattle.groups.proofs.Weights.{weight_covers, weight_near, weight_small}
 
