@@ -1,11 +1,11 @@
 -- What is written reads back as what was handed in.
-use Rattle.std.proofs.Common.{◌≡◌, ℕ, zero, suc, ◌+◌, ◌*◌, ◌/◌, ◌%◌, ◌<◌, ◌≤◌, List, [], ◌∷◌, ◌++◌, length, get_or, take, drop, sym, refl, ap, ◌∙◌, arith, length-append}
-use Rattle.std.specs.List.{range_with_len, flat_map, AllByRecursion as All}
+use Rattle.std.proofs.Common.{◌≡◌, ℕ, zero, suc, ◌+◌, ◌*◌, ◌/◌, ◌%◌, ◌<◌, ◌≤◌, List, [], ◌∷◌, ◌++◌, length, get_or, take, drop, sym, refl, ap, ◌∙◌, arith}
+use Rattle.std.specs.List.{AllByRecursion as All}
 use Rattle.std.proofs.lemmas.Nat.{shr-shr, div_below}
 use Rattle.std.proofs.lemmas.List.FromFn.{length-map-range_with_len, get_or-map-range_with_len}
 use Rattle.std.proofs.lemmas.List.{ext_get_or, get_or-append-add, take_at, take_all, drop_at, drop-drop}
-use Rattle.certificate.specs.Bytes.{u16_at, u32_at, le16, le32}
-use Rattle.certificate.specs.Layout.{offset, size, section_of}
+use Rattle.certificate.specs.Bytes.{u16_at}
+use Rattle.certificate.specs.Layout.{offset, section_of}
 use Rattle.certificate.specs.Content.{Content, content_of, geometry_of, values_of, factors_of, entry_at, entries}
 use Rattle.certificate.specs.Writing.{written, entry_bytes, list_bytes, Fits16, Fits32, EntryFits, Fitting}
 use Rattle.certificate.specs.declared.fields.Geometry.{Geometry}

@@ -1,12 +1,12 @@
 -- What the answered questions say of a certificate's numbers.
-use Rattle.std.proofs.Common.{◌≡◌, ℕ, zero, suc, ◌-◌, ◌/◌, ◌%◌, ◌<◌, ◌≤◌, Bool, true, false, ◌&&◌, ◌||◌, eqb, ltb, leb, ◌⊎◌, List, [], ◌∷◌, ◌++◌, length, get_or, Ok, sym, refl, ap, ◌∙◌, subst, inl, inr, ⊎_elim, lt_trans, arith, length-drop, length-take}
+use Rattle.std.proofs.Common.{◌≡◌, ℕ, zero, suc, ◌-◌, ◌/◌, ◌%◌, ◌<◌, ◌≤◌, true, ◌&&◌, ◌||◌, eqb, ltb, leb, ◌⊎◌, List, [], ◌∷◌, ◌++◌, length, get_or, Ok, ap, ◌∙◌, subst, inl, inr, ⊎_elim, lt_trans, arith, length-drop, length-take}
 use Rattle.std.specs.List.{range_with_len, flat_map, AllByRecursion as All}
 use Rattle.std.proofs.lemmas.List.FromFn.{length-range_with_len, get_or-range_with_len}
 use Rattle.std.proofs.lemmas.Bool.Decides.{nat_tests}
 use Rattle.std.proofs.lemmas.Bool.{leb-true, eqb-true, and_parts, or_cases, cases_lt}
-use Rattle.certificate.specs.Asked.{Asked, first_no}
+use Rattle.certificate.specs.Asked.{Asked}
 use Rattle.certificate.specs.Layout.{section_of, header_asked, layout_asked, offset, size, section_end}
-use Rattle.certificate.specs.Rules.{allowed, two, four, four_or_zero, fields_asked, geometry_rules, resistance_rules, ratios_asked}
+use Rattle.certificate.specs.Rules.{allowed, two, four_or_zero, fields_asked, geometry_rules, resistance_rules, ratios_asked}
 use Rattle.certificate.specs.Reading.{refusal, numbers_asked, strengths_asked}
 use Rattle.certificate.specs.Strengths.{strength_at, factor_at, entry_asked, list_asked}
 use Rattle.certificate.specs.Lookup.{list_section}

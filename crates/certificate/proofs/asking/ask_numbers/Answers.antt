@@ -24,25 +24,25 @@ same_fields p q xs ys rs ss e f g = cc
 same_ratios : (p q : ℕ) (xs ys : List ℕ) → p ≡ q → xs ≡ ys → first_no (ratios_asked p xs) ≡ first_no (ratios_asked q ys)
 same_ratios p q xs ys e f = ap (λ (k : ℕ). first_no (ratios_asked k xs)) e ∙ ap (λ (zs : List ℕ). first_no (ratios_asked q zs)) f
 
-pub returns-in-err-ask-fields : goal.returns-in-err-ask-fields
-returns-in-err-ask-fields c =
-    let p = err_from_is_err_and c.from-residual.result c.from-residual.ensures.1 in
+pub returns-in_err-ask_fields : goal.returns-in_err-ask_fields
+returns-in_err-ask_fields c =
+    let p = err_from_is_err_and c.from_residual.result c.from_residual.ensures.1 in
     let bs : List ℕ = c.args.bytes.now in
-    let e : first_no (geometry bs) ≡ Err c.in-err-ask-fields.field-0.0 = sym (same_fields _ _ _ _ _ _ c.part-of-geometry.ensures.place c.part-of-geometry.ensures.bytes c.geometry_rules.ensures) ∙ sym c.ask-fields.ensures ∙ c.in-err-ask-fields.was in
+    let e : first_no (geometry bs) ≡ Err c.in_err-ask_fields.field-0.0 = sym (same_fields _ _ _ _ _ _ c.part_of-geometry.ensures.place c.part_of-geometry.ensures.bytes c.geometry_rules.ensures) ∙ sym c.ask_fields.ensures ∙ c.in_err-ask_fields.was in
     rw (p.1, p.2) (sym (first_no_stop (geometry bs) (resistance bs ++ ratios bs) _ e))
 
-pub returns-in-err-ask-fields-2 : goal.returns-in-err-ask-fields-2
-returns-in-err-ask-fields-2 c =
-    let p = err_from_is_err_and c.from-residual-in-err-ask-fields-2.result c.from-residual-in-err-ask-fields-2.ensures.1 in
+pub returns-in_err-ask_fields-2 : goal.returns-in_err-ask_fields-2
+returns-in_err-ask_fields-2 c =
+    let p = err_from_is_err_and c.from_residual-in_err-ask_fields-2.result c.from_residual-in_err-ask_fields-2.ensures.1 in
     let bs : List ℕ = c.args.bytes.now in
-    let d : first_no (geometry bs) ≡ Ok tt = sym (same_fields _ _ _ _ _ _ c.part-of-geometry.ensures.place c.part-of-geometry.ensures.bytes c.geometry_rules.ensures) ∙ sym c.ask-fields.ensures ∙ c.in-ok-ask-fields.was in
-    let e : first_no (resistance bs) ≡ Err c.in-err-ask-fields-2.field-0.0 = sym (same_fields _ _ _ _ _ _ c.part-of.ensures.place c.part-of.ensures.bytes c.resistance_rules.ensures) ∙ sym c.ask-fields-2.ensures ∙ c.in-err-ask-fields-2.was in
+    let d : first_no (geometry bs) ≡ Ok tt = sym (same_fields _ _ _ _ _ _ c.part_of-geometry.ensures.place c.part_of-geometry.ensures.bytes c.geometry_rules.ensures) ∙ sym c.ask_fields.ensures ∙ c.in_ok-ask_fields.was in
+    let e : first_no (resistance bs) ≡ Err c.in_err-ask_fields-2.field-0.0 = sym (same_fields _ _ _ _ _ _ c.part_of.ensures.place c.part_of.ensures.bytes c.resistance_rules.ensures) ∙ sym c.ask_fields-2.ensures ∙ c.in_err-ask_fields-2.was in
     rw (p.1, p.2) (sym (first_no_then (geometry bs) (resistance bs ++ ratios bs) d ∙ first_no_stop (resistance bs) (ratios bs) _ e))
 
 pub returns : goal.returns
 returns c =
     let bs : List ℕ = c.args.bytes.now in
-    let d : first_no (geometry bs) ≡ Ok tt = sym (same_fields _ _ _ _ _ _ c.part-of-geometry.ensures.place c.part-of-geometry.ensures.bytes c.geometry_rules.ensures) ∙ sym c.ask-fields.ensures ∙ c.in-ok-ask-fields.was in
-    let e : first_no (resistance bs) ≡ Ok tt = sym (same_fields _ _ _ _ _ _ c.part-of.ensures.place c.part-of.ensures.bytes c.resistance_rules.ensures) ∙ sym c.ask-fields-2.ensures ∙ c.in-ok-ask-fields-2.was in
-    let f : c.ask-ratios.result ≡ first_no (ratios bs) = c.ask-ratios.ensures ∙ same_ratios _ _ _ _ c.part-of-geometry.ensures.place c.part-of-geometry.ensures.bytes in
+    let d : first_no (geometry bs) ≡ Ok tt = sym (same_fields _ _ _ _ _ _ c.part_of-geometry.ensures.place c.part_of-geometry.ensures.bytes c.geometry_rules.ensures) ∙ sym c.ask_fields.ensures ∙ c.in_ok-ask_fields.was in
+    let e : first_no (resistance bs) ≡ Ok tt = sym (same_fields _ _ _ _ _ _ c.part_of.ensures.place c.part_of.ensures.bytes c.resistance_rules.ensures) ∙ sym c.ask_fields-2.ensures ∙ c.in_ok-ask_fields-2.was in
+    let f : c.ask_ratios.result ≡ first_no (ratios bs) = c.ask_ratios.ensures ∙ same_ratios _ _ _ _ c.part_of-geometry.ensures.place c.part_of-geometry.ensures.bytes in
     f ∙ sym (first_no_then (geometry bs) (resistance bs ++ ratios bs) d ∙ first_no_then (resistance bs) (ratios bs) e)

@@ -5,13 +5,13 @@ use Rattle.certificate.proofs.write.draft_of.Goals as goal
 pub returns : goal.returns
 unfolding written
 returns c = record {
-  after = joined_parts _ _ _ _ _ _ _ _ _ _ _ _ _ c.new-draft.ensures.after c.put-head.ensures.after c.put-geometry.ensures.after c.put-values.ensures.after c.put-factors.ensures.after c.put-entries.ensures.after c.put-entries-2.ensures.after;
+  after = joined_parts _ _ _ _ _ _ _ _ _ _ _ _ _ c.new-draft.ensures.after c.put_head.ensures.after c.put_geometry.ensures.after c.put_values.ensures.after c.put_factors.ensures.after c.put_entries.ensures.after c.put_entries-2.ensures.after;
   fits = record {
-    shorts = c.put-geometry.ensures.shorts;
-    inertia = c.put-geometry.ensures.inertia;
-    values = c.put-values.ensures.fits;
-    factors = c.put-factors.ensures.fits;
-    cracked = c.put-entries.ensures.fits;
-    uncracked = c.put-entries-2.ensures.fits;
+    shorts = c.put_geometry.ensures.shorts;
+    inertia = c.put_geometry.ensures.inertia;
+    values = c.put_values.ensures.fits;
+    factors = c.put_factors.ensures.fits;
+    cracked = c.put_entries.ensures.fits;
+    uncracked = c.put_entries-2.ensures.fits;
   };
 }

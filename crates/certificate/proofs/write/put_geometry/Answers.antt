@@ -10,8 +10,8 @@ returns c =
     let g = c.args.geometry.now in
     let inertia : List ℕ = flat_map le32 (g.moment_of_inertia ∷ []) in
     record {
-      after = c.put-longs.ensures.after ∙ ap (λ (ys : List ℕ). ys ++ inertia) c.put-shorts.ensures.after ∙ append_assoc (drafted c.args.draft.now) (flat_map le16 (geometry_shorts g)) inertia;
+      after = c.put_longs.ensures.after ∙ ap (λ (ys : List ℕ). ys ++ inertia) c.put_shorts.ensures.after ∙ append_assoc (drafted c.args.draft.now) (flat_map le16 (geometry_shorts g)) inertia;
       count = search rules;
-      shorts = c.put-shorts.ensures.fits;
-      inertia = c.put-longs.ensures.fits.0;
+      shorts = c.put_shorts.ensures.fits;
+      inertia = c.put_longs.ensures.fits.0;
     }

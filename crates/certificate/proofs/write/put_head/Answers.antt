@@ -11,6 +11,6 @@ returns c =
     let rest : List ℕ = flat_map le16 (pairs c.args.cracked c.args.uncracked) in
     let two = c.put-2.ensures.after ∙ ap (λ (ys : List ℕ). ys ++ (4 ∷ [])) c.put.ensures.after ∙ append_assoc was (c.args.edition ∷ []) (4 ∷ []) in
     record {
-      after = c.put-shorts.ensures.after ∙ ap (λ (ys : List ℕ). ys ++ rest) two ∙ append_assoc was (c.args.edition ∷ 4 ∷ []) rest;
+      after = c.put_shorts.ensures.after ∙ ap (λ (ys : List ℕ). ys ++ rest) two ∙ append_assoc was (c.args.edition ∷ 4 ∷ []) rest;
       count = search rules;
     }

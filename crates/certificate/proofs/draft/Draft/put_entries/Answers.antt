@@ -1,4 +1,4 @@
-use Rattle.std.proofs.Common.{◌≡◌, ℕ, List, ◌++◌, get_or, ap, ◌∙◌, subst, append_assoc, arith}
+use Rattle.std.proofs.Common.{ℕ, List, ◌++◌, get_or, ap, ◌∙◌, subst, append_assoc, arith}
 use Rattle.std.specs.List.{AllByRecursion as All}
 use Rattle.std.proofs.ByRecursion.{All-more}
 use Rattle.std.proofs.lemmas.List.{take_all}
@@ -18,8 +18,8 @@ loop-entry-preserved c =
     let xs = c.args.entries.now in
     let i = c.loop-entry.entry-index in
     let e : StrengthFactor = get_or xs i none in
-    let two = c.put-short-in-loop-entry.ensures.after ∙ ap (λ (ys : List ℕ). ys ++ le16 e.factor) c.put-short.ensures.after ∙ append_assoc (drafted c.loop-entry.self) (le16 e.strength) (le16 e.factor) in
-    (put_more entry_bytes (drafted c.args.self.now) xs i none _ _ c.loop-entry-test.true c.loop-entry.invariant.0 two, All-more EntryFits xs i none c.loop-entry-test.true c.loop-entry.invariant.1 (c.put-short.ensures.fits, c.put-short-in-loop-entry.ensures.fits), omega arith)
+    let two = c.put_short-in-loop-entry.ensures.after ∙ ap (λ (ys : List ℕ). ys ++ le16 e.factor) c.put_short.ensures.after ∙ append_assoc (drafted c.loop-entry.self) (le16 e.strength) (le16 e.factor) in
+    (put_more entry_bytes (drafted c.args.self.now) xs i none _ _ c.loop-entry-test.true c.loop-entry.invariant.0 two, All-more EntryFits xs i none c.loop-entry-test.true c.loop-entry.invariant.1 (c.put_short.ensures.fits, c.put_short-in-loop-entry.ensures.fits), omega arith)
 
 pub returns : goal.returns
 returns c =

@@ -6,7 +6,7 @@ use Rattle.certificate.proofs.draft.Draft.put_long.Goals as goal
 
 pub returns : goal.returns
 returns c = record {
-  after = put_four (drafted c.args.self.now) _ _ _ _ _ (le32 c.args.number) c.to-le-bytes.ensures c.put.ensures.after c.put-2.ensures.after c.put-3.ensures.after c.put-4.ensures.after;
+  after = put_four (drafted c.args.self.now) _ _ _ _ _ (le32 c.args.number) c.to_le_bytes.ensures c.put.ensures.after c.put-2.ensures.after c.put-3.ensures.after c.put-4.ensures.after;
   count = search rules;
   fits = search rules;
 }

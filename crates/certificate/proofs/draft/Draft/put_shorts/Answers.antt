@@ -1,4 +1,4 @@
-use Rattle.std.proofs.Common.{◌≡◌, subst, arith}
+use Rattle.std.proofs.Common.{subst, arith}
 use Rattle.std.specs.List.{AllByRecursion as All}
 use Rattle.std.proofs.ByRecursion.{All-more}
 use Rattle.std.proofs.lemmas.List.{take_all}
@@ -12,7 +12,7 @@ pub loop-number-preserved : goal.loop-number-preserved
 loop-number-preserved c =
     let xs = c.args.numbers.now in
     let i = c.loop-number.number-index in
-    (put_more le16 (drafted c.args.self.now) xs i 0 _ _ c.loop-number-test.true c.loop-number.invariant.0 c.put-short.ensures.after, All-more Fits16 xs i 0 c.loop-number-test.true c.loop-number.invariant.1 c.put-short.ensures.fits, omega arith)
+    (put_more le16 (drafted c.args.self.now) xs i 0 _ _ c.loop-number-test.true c.loop-number.invariant.0 c.put_short.ensures.after, All-more Fits16 xs i 0 c.loop-number-test.true c.loop-number.invariant.1 c.put_short.ensures.fits, omega arith)
 
 pub returns : goal.returns
 returns c =
