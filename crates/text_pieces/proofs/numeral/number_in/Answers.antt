@@ -2,15 +2,15 @@ use Rattle.std.proofs.Common.{◌-◌, ◌≤◌, length, get_or, inl, inr, arit
 use Rattle.text_pieces.proofs.Written.{decimal_back}
 use Rattle.text_pieces.proofs.DigitRuns.{wrong_length, no_digit, digits_more, read_more, read_all, below_more, below_nine}
 use Rattle.text_pieces.proofs.numeral.number_in.Goals as goal
-use Rattle.text_pieces.proofs.numeral.number_in.Goals.{then-is-empty-via-then-is-empty, then-is-empty-via-else-is-empty+then-bytes-gt-MOST-DIGITS}
+use Rattle.text_pieces.proofs.numeral.number_in.Goals.{then-is_empty-via-then-is_empty, then-is_empty-via-else-is_empty+then-bytes-gt-MOST_DIGITS}
 use Rattle.text_pieces.proofs.numeral.number_in.Goals.{then-byte-lt48-via-then-byte-lt48, then-byte-lt48-via-else-byte-lt48+then-byte-gt57}
 
-pub returns-then-is-empty : goal.returns-then-is-empty
-returns-then-is-empty c =
+pub returns-then-is_empty : goal.returns-then-is_empty
+returns-then-is_empty c =
     record {
-      value = wrong_length c.args.bytes.now (elim c.then-is-empty.branch [
-        | then-is-empty-via-then-is-empty w ↦ inl (search rules)
-        | then-is-empty-via-else-is-empty+then-bytes-gt-MOST-DIGITS w ↦ inr w.if-bytes-gt-MOST-DIGITS.true
+      value = wrong_length c.args.bytes.now (elim c.then-is_empty.branch [
+        | then-is_empty-via-then-is_empty w ↦ inl (search rules)
+        | then-is_empty-via-else-is_empty+then-bytes-gt-MOST_DIGITS w ↦ inr w.if-bytes-gt-MOST_DIGITS.true
       ]);
       decimals = decimal_back;
     }
@@ -25,13 +25,13 @@ returns-then-byte-lt48 c =
       decimals = decimal_back;
     }
 
-pub overflow-mul-number : goal.overflow-mul-number
-overflow-mul-number c =
+pub overflow_mul-number : goal.overflow_mul-number
+overflow_mul-number c =
     let b = below_nine _ _ (below_more c.loop-byte.number 0 c.loop-byte.byte-index c.loop-byte.invariant.2 (omega arith)) (omega arith) in
     omega arith
 
-pub overflow-add-number : goal.overflow-add-number
-overflow-add-number c =
+pub overflow_add-number : goal.overflow_add-number
+overflow_add-number c =
     let d : get_or c.args.bytes.now c.loop-byte.byte-index 0 - 48 ≤ 9 = omega arith in
     let b = below_nine _ _ (below_more c.loop-byte.number (get_or c.args.bytes.now c.loop-byte.byte-index 0 - 48) c.loop-byte.byte-index c.loop-byte.invariant.2 d) (omega arith) in
     omega arith
@@ -48,6 +48,6 @@ pub returns : goal.returns
 returns c =
     let some : 1 ≤ length c.args.bytes.now = search rules in
     record {
-      value = read_all c.args.bytes.now c.loop-byte.byte-index c.loop-byte.number c.loop-byte.invariant.0 c.loop-byte.invariant.1 c.loop-byte-test.false some c.if-bytes-gt-MOST-DIGITS.false;
+      value = read_all c.args.bytes.now c.loop-byte.byte-index c.loop-byte.number c.loop-byte.invariant.0 c.loop-byte.invariant.1 c.loop-byte-test.false some c.if-bytes-gt-MOST_DIGITS.false;
       decimals = decimal_back;
     }
