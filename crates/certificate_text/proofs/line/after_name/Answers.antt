@@ -8,12 +8,12 @@ use Rattle.std.proofs.lemmas.Bool.Decides.{Decides-eqb}
 
 pub returns-else-eq : goal.returns-else-eq
 returns-else-eq c =
-    let p = ap (after_name c.args.name.now) c.cut-word-cut.ensures.words in
-    let d = slice_eq-Decides Decides-eqb c.cut-word-cut.result.word.now c.as-bytes.result.now c.eq.result c.eq.ensures in
-    sym (p ∙ other_name _ _ _ (λ e. both_ways c.eq.result c.if-eq.false (d.1 (e ∙ sym c.as-bytes.ensures.value))))
+    let p = ap (after_name c.args.name.now) c.cut_word-cut.ensures.words in
+    let d = slice_eq-Decides Decides-eqb c.cut_word-cut.result.word.now c.as_bytes.result.now c.eq.result c.eq.ensures in
+    sym (p ∙ other_name _ _ _ (λ e. both_ways c.eq.result c.if-eq.false (d.1 (e ∙ sym c.as_bytes.ensures.value))))
 
 pub returns-then-eq : goal.returns-then-eq
 returns-then-eq c =
-    let p = ap (after_name c.args.name.now) c.cut-word-cut.ensures.words in
-    let d = slice_eq-Decides Decides-eqb c.cut-word-cut.result.word.now c.as-bytes.result.now c.eq.result c.eq.ensures in
-    sym (p ∙ same_name _ _ _ (d.0 c.if-eq.true ∙ c.as-bytes.ensures.value))
+    let p = ap (after_name c.args.name.now) c.cut_word-cut.ensures.words in
+    let d = slice_eq-Decides Decides-eqb c.cut_word-cut.result.word.now c.as_bytes.result.now c.eq.result c.eq.ensures in
+    sym (p ∙ same_name _ _ _ (d.0 c.if-eq.true ∙ c.as_bytes.ensures.value))

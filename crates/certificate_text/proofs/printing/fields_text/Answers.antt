@@ -11,10 +11,10 @@ pub loop-k-preserved : goal.loop-k-preserved
 loop-k-preserved c =
     let ns : List ℕ = c.args.numbers.now in
     let k : ℕ = c.loop-k.k in
-    let a = c.in-ok-line.ensures in
-    let b = c.in-ok-push-str.ensures.bytes in
-    let e = c.as-str.ensures.value ∙ a ∙ ap (λ (name : List ℕ). field_text name (get_or ns k 0)) c.name-of.ensures in
-    ap (λ (xs : List ℕ). xs ++ fields_text (drop (k + 1) fields) (drop (k + 1) ns)) b ∙ fields_more ns (string_bytes c.loop-k.out) (fields_text fields ns) k c.loop-k.invariant c.as-str.result.now c.loop-k-test.true e
+    let a = c.in_ok-line.ensures in
+    let b = c.in_ok-push_str.ensures.bytes in
+    let e = c.as_str.ensures.value ∙ a ∙ ap (λ (name : List ℕ). field_text name (get_or ns k 0)) c.name_of.ensures in
+    ap (λ (xs : List ℕ). xs ++ fields_text (drop (k + 1) fields) (drop (k + 1) ns)) b ∙ fields_more ns (string_bytes c.loop-k.out) (fields_text fields ns) k c.loop-k.invariant c.as_str.result.now c.loop-k-test.true e
 
 pub returns : goal.returns
 returns c =

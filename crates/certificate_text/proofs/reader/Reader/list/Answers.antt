@@ -12,14 +12,14 @@ loop-entry-smaller c = c.in-Some.ensures.shorter refl
 pub loop-entry-preserved : goal.loop-entry-preserved
 loop-entry-preserved c =
     let h = entry_more _ _ _ _ _ c.loop-entry.invariant _ _ c.in-Some.ensures in
-    entries_same _ _ _ _ _ h _ _ c.in-ok-push.ensures.items c.in-ok-push.ensures.len
+    entries_same _ _ _ _ _ h _ _ c.in_ok-push.ensures.items c.in_ok-push.ensures.len
 
-pub returns-in-err-push : goal.returns-in-err-push
-returns-in-err-push c =
-    let p = err_from_is_err_and c.from-residual.result c.from-residual.ensures.1 in
+pub returns-in_err-push : goal.returns-in_err-push
+returns-in_err-push c =
+    let p = err_from_is_err_and c.from_residual.result c.from_residual.ensures.1 in
     rw (p.1, p.2) (entry_there _ _ _ _ _ c.loop-entry.invariant _ _ c.in-Some.ensures)
 
 pub returns : goal.returns
 returns c =
-    let h = entries_end _ _ _ _ _ c.loop-entry.invariant _ c.in-default.ensures in
+    let h = entries_end _ _ _ _ _ c.loop-entry.invariant _ c.in_default.ensures in
     record { values = h.1; past = h.0.past; shorter = h.0.shorter }
