@@ -1,4 +1,4 @@
-use Rattle.std.proofs.Common.{◌≡◌, ℕ, ◌-◌, List, ◌++◌, length, take, drop, Ok, sym, ap, ◌∙◌, subst, arith, rules}
+use Rattle.std.proofs.Common.{◌≡◌, ℕ, ◌-◌, List, ◌++◌, length, take, drop, Ok, sym, ap, ◌∙◌, arith}
 use Rattle.std.proofs.lemmas.List.{take_at}
 use Rattle.certificate.specs.Content.{Content, reading}
 use Rattle.certificate.specs.Writing.{content, written}
@@ -12,8 +12,8 @@ front bs old new n h e = ap (take n) e ∙ take_at bs (drop n old) n (sym h)
 pub returns : goal.returns
 returns c =
     let k : Content = content c.fields.result in
-    let w = c.in-ok-length.ensures in
-    let said : k ≡ content_in c.in-ok-parsed.parsed = c.fields.ensures in
-    let all : c.in-ok-length.length - 0 ≡ c.in-ok-length.length = omega arith in
-    let is = c.in-ok-from-slice.ensures.items ∙ ap (λ (m : ℕ). take m c.write.new.buffer) all ∙ front (written k) _ c.write.new.buffer c.in-ok-length.length w.1 w.3 in
-    (k, c.in-ok-parsed.ensures ∙ ap Ok (sym said), is, ap reading is ∙ w.4)
+    let w = c.in_ok-length.ensures in
+    let said : k ≡ content_in c.in_ok-parsed.parsed = c.fields.ensures in
+    let all : c.in_ok-length.length - 0 ≡ c.in_ok-length.length = omega arith in
+    let is = c.in_ok-from_slice.ensures.items ∙ ap (λ (m : ℕ). take m c.write.new.buffer) all ∙ front (written k) _ c.write.new.buffer c.in_ok-length.length w.1 w.3 in
+    (k, c.in_ok-parsed.ensures ∙ ap Ok (sym said), is, ap reading is ∙ w.4)
