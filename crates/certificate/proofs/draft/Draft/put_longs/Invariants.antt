@@ -1,5 +1,5 @@
-use Rattle.std.proofs.Common.{◌≡◌, ◌+◌, ◌*◌, ◌++◌, take}
-use Rattle.std.specs.List.{flat_map, AllByRecursion as All}
+use Rattle.std.proofs.Common.{All, ◌≡◌, ◌+◌, ◌*◌, ◌++◌, take}
+use Rattle.std.specs.List.{flat_map}
 use Rattle.certificate.specs.Bytes.{le32}
 use Rattle.certificate.specs.Drafts.{drafted}
 use Rattle.certificate.specs.Writing.{Fits32}
