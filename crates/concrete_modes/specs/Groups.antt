@@ -1,6 +1,5 @@
 -- The effect of a group is not too great, and has readings.
-use Rattle.std.specs.Prelude.{ℕ, ◌*◌, ◌<◌, ◌≤◌, List, [], ◌∷◌, sum_by}
-use Rattle.std.proofs.Common.{mul-le-mul_right, arith}
+use Rattle.std.proofs.Common.{ℕ, ◌*◌, ◌<◌, ◌≤◌, List, [], ◌∷◌, sum_by, mul-le-mul_right, arith}
 use Rattle.std.specs.List.{range_with_len}
 use Rattle.std.proofs.lemmas.List.Sums.{sum_by-cons}
 use Rattle.fractions.specs.Fractions.{whole}
@@ -11,7 +10,7 @@ use Rattle.forces.specs.Exact.{force}
 use Rattle.forces.proofs.Exactness.{bounded}
 use Rattle.groups.specs.Groups.{weight_on, part, group_effect, LowChoice, HighChoice}
 use Rattle.groups.proofs.Weights.{weight_on_small}
-use Rattle.steel_modes.proofs.Enclosing.{ends_of, beyond_all}
+use Rattle.steel_modes.specs.Enclosing.{ends_of, beyond_all}
 
 scaled : (f g : ℕ → ℕ) (xs : List ℕ) → ((x : ℕ) → f x ≤ g x) → 1000000 * sum_by f xs ≤ sum_by (λ x. 1000000 * g x) xs
 scaled f g [] h = omega arith

@@ -1,24 +1,20 @@
 // The concrete cone about an anchor in tension, and the pry-out in shear, which is the cone's resistance times a factor.
-ghost use Rattle.std.specs.Prelude.{◌≡◌, ◌≤◌, true};
+ghost use Rattle.std.specs.Prelude.{◌≡◌, true};
 ghost use Rattle.steel_modes.specs.Ranges.{Made};
-ghost use Rattle.concrete_modes.specs.Cone.{cone_well, cone_spacing, cone_edge, cone_meaning};
-ghost use Rattle.concrete_modes.specs.Bounds.{cone_bounds};
-ghost use Rattle.concrete_modes.specs.Cones.{cone_lawful};
+ghost use Rattle.concrete.specs.Cone.{cone_spacing};
+ghost use Rattle.concrete_modes.specs.Cones.{cone_well, cone_meaning};
 ghost use Rattle.std.proofs.Common.{rules, arith};
 
 use crate::cone::basis::{basic_value, characteristic_spacing, is_cone_well};
 use bolts::bolt::Direction;
 use failure::mode::FailureMode;
-use failure::places::Places;
+use failure::places::{PlaceKind, Places};
 use groups::effect::group_effect;
 use groups::spacing::CharacteristicSpacing;
 use loadcase::closed::ClosedCase;
-use roots::division::{Divisor, div_up};
 use steel_modes::design::PartialFactor;
 
 mod basis;
-
-const HALVES: u64 = 2;
 
 // What the basic resistance is reckoned from: the factor k in tenths, the strength in N/mm², the embedment depth in
 // tenths of a millimetre, and the multiple in tenths, 10 for the cone itself.
@@ -58,23 +54,14 @@ impl Cone {
             None
         }
     }
-
-    // The characteristic edge distance in µm: half of the characteristic spacing, up.
-    pub fn characteristic_edge_distance(&self) -> u64
-        ensures value { result ≡ cone_edge self.now.basis.depth }
-        ensures large { 25000 ≤ result }
-        ensures small { result ≤ 2500000 }
-    {
-        div_up(self.spacing.um, Divisor { number: HALVES })
-    }
 }
 
 impl FailureMode for Cone {
+    ghost use Rattle.concrete_modes.specs.Laws.{cone_keeps};
+
     ghost meaning = { λ m c. cone_meaning m.direction m.spacing m.basis m.factor c };
 
-    ghost lawful = { λ m c valid i here.
-        let b = m.basis in
-        cone_lawful m.direction m.spacing b m.factor c valid (cone_bounds b.k b.strength b.depth b.multiple m.ranged) i };
+    ghost lawful = { λ m. cone_keeps m.basis m.ranged m.direction m.spacing m.factor };
 
     ghost few = { first_of (Prim.search rules, Prim.grind (arith, Self.row.coded.inj)) };
 
@@ -91,7 +78,10 @@ impl FailureMode for Cone {
     }
 
     fn places(&self, case: &ClosedCase) -> Places {
-        Places::on_anchors(case)
+        Places {
+            kind: PlaceKind::Anchors,
+            count: case.opening().anchors as usize,
+        }
     }
 
     fn effect(&self, case: &ClosedCase, place: usize) -> Option<u64> {
@@ -99,7 +89,10 @@ impl FailureMode for Cone {
     }
 
     fn resistance(&self, case: &ClosedCase, place: usize) -> Option<u64> {
-        let design = basic_value(self.basis).design(self.factor);
-        self.places(case).at_each(design.value, place)
+        if place < case.opening().anchors as usize {
+            Some(basic_value(self.basis).design(self.factor).value)
+        } else {
+            None
+        }
     }
 }

@@ -1,56 +1,22 @@
 // Worked figures that the definitions give, established together: whoever changes a definition has to meet them all.
-// Two of them, which need no load case, are also reckoned by the code.
 #![tactic(auto)]
 
 ghost use Rattle.std.specs.Prelude.{◌≡◌};
-ghost use Rattle.influence.specs.Lengths.{influence_length};
-ghost use Rattle.groups.specs.Weights.{weight};
 ghost use Rattle.figures.specs.Worked.{WorkedFigures};
 
-use groups::spacing::CharacteristicSpacing;
-use influence::Channel;
+// How many figures the record names.
+const FIGURES: u8 = 9;
 
-// The worked channel: moment of inertia in mm⁴, spacing of anchors in tenths of a millimetre.
-const INERTIA: u32 = 59_049;
-
-const SPACING: u32 = 1_000;
-
-// The worked group: characteristic spacing and distance of a neighbour in µm.
-const GROUP: u64 = 400_000;
-
-const NEIGHBOUR: u64 = 300_000;
-
-// Worked figures as the code gives them: an influence length in µm, and the weight of a neighbour in millionths.
-#[derive(Clone, Copy)]
-pub struct Figures {
-    pub length: u64,
-    pub neighbour: u64,
-}
-
-// The definitions give every worked figure, and so does the code.
-pub fn figures_hold() -> Figures
+// The definitions give every worked figure.
+pub fn figures_hold() -> u8
     ensures figures { WorkedFigures }
-    ensures length { result.length ≡ 225166 }
-    ensures neighbour { result.neighbour ≡ 125000 }
+    ensures count { result ≡ 9 }
 {
-    Figures {
-        length: worked_length(),
-        neighbour: worked_neighbour(),
-    }
+    count_of_figures()
 }
 
-fn worked_length() -> u64
-    ensures { result ≡ influence_length 59049 1000 }
+fn count_of_figures() -> u8
+    ensures { result ≡ 9 }
 {
-    Channel {
-        inertia: INERTIA,
-        spacing: SPACING,
-    }
-    .influence_length()
-}
-
-fn worked_neighbour() -> u64
-    ensures { result ≡ weight 400000 300000 }
-{
-    CharacteristicSpacing { um: GROUP }.weight(NEIGHBOUR)
+    FIGURES
 }

@@ -20,7 +20,7 @@ pub fn answer_calls<S: RatingSheet>(
     opening: Opening,
     calls: &[Call],
 ) -> Result<Vec<Answer>, Fault>
-    ensures { Kept (S.SheetLines.lines sheet.now) opening calls.now result }
+    ensures { Kept (S.RatingSheet.lines sheet.now) opening calls.now result }
 {
     let mut case = AnyCase::Open(OpenCase::open(heap, opening)?);
     let Ok(mut answers) = Vec::with_capacity(heap, calls.len()) else {
@@ -40,8 +40,8 @@ fn answer_one<S: RatingSheet>(
     answers: &mut Vec<Answer>,
 ) -> AnyCase
     requires { vec_len answers.old < vec_capacity answers.old }
-    ensures added { answers.new.items ≡ answers.old.items ++ answer_of (S.SheetLines.lines sheet.now) (standing case) call ∷ [] }
-    ensures after { standing result ≡ after (standing case) call (answer_of (S.SheetLines.lines sheet.now) (standing case) call) }
+    ensures added { answers.new.items ≡ answers.old.items ++ answer_of (S.RatingSheet.lines sheet.now) (standing case) call ∷ [] }
+    ensures after { standing result ≡ after (standing case) call (answer_of (S.RatingSheet.lines sheet.now) (standing case) call) }
     ensures len { vec_len answers.new ≡ vec_len answers.old + 1 }
     ensures capacity { vec_capacity answers.new ≡ vec_capacity answers.old }
 {

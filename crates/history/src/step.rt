@@ -38,7 +38,7 @@ fn rated_or_refused(outcome: Result<Verdict, Refusal>) -> Answer
 // Answers a call, and hands the case on as it then stands. A call that the types of open and closed case would not build
 // is out of turn and changes nothing.
 pub fn step<S: RatingSheet>(sheet: &S, case: AnyCase, call: Call) -> (AnyCase, Answer)
-    ensures answer { result.1 ≡ answer_of (S.SheetLines.lines sheet.now) (standing case) call }
+    ensures answer { result.1 ≡ answer_of (S.RatingSheet.lines sheet.now) (standing case) call }
     ensures after { standing result.0 ≡ after (standing case) call result.1 }
 {
     match case {

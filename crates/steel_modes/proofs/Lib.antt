@@ -1,7 +1,1 @@
-pub mod Enclosing
-pub mod Anchored
-pub mod Bolted
 pub mod Nearby
-pub mod Lips
-pub mod Spans
-pub mod Flexed

@@ -4,7 +4,7 @@ use borrow.Author.Tests.{eqb-false}
 use Rattle.std.proofs.lemmas.Bool.{cases_lt}
 use Rattle.bolts.specs.Neighbours.{distance, Nearest}
 use Rattle.bolts.specs.declared.bolt.Bolt.{Bolt}
-use Rattle.steel_modes.specs.Lip.{closer, nearest_among, nearest_of}
+use Rattle.steel_modes.specs.Nearby.{closer, nearest_among, nearest_of}
 
 module _ (xs : List Bolt) (k : ℕ) where
   -- the least among the first n, or none

@@ -1,10 +1,10 @@
 // The steel of an anchor.
 ghost use Rattle.std.specs.Prelude.{◌≡◌, true};
-ghost use Rattle.steel_modes.specs.Ranges.{Made};
-ghost use Rattle.steel_modes.specs.AnchorSteel.{value_or_none, anchor_steel_meaning};
+ghost use Rattle.steel_modes.specs.Ranges.{Made, value_or_none};
+ghost use Rattle.steel_modes.specs.Anchored.{anchor_steel_meaning};
 ghost use Rattle.std.proofs.Common.{rules, arith};
 
-use crate::arithmetic::{from_newtons, is_value_well};
+use crate::arithmetic::{at_each, from_newtons, is_value_well};
 use crate::design::PartialFactor;
 use bolts::bolt::Direction;
 use failure::mode::FailureMode;
@@ -39,9 +39,11 @@ impl AnchorSteel {
 }
 
 impl FailureMode for AnchorSteel {
+    ghost use Rattle.steel_modes.specs.Laws.{anchor_steel_lawful};
+
     ghost meaning = { λ m c. anchor_steel_meaning m.direction m.value m.factor c };
 
-    ghost lawful = { first_of (Prim.search rules, Prim.grind (arith, Self.row.coded.inj)) };
+    ghost lawful = { λ m. anchor_steel_lawful m.direction m.value m.factor m.ranged };
 
     ghost few = { first_of (Prim.search rules, Prim.grind (arith, Self.row.coded.inj)) };
 
@@ -64,7 +66,10 @@ impl FailureMode for AnchorSteel {
                 count: 0,
             }
         } else {
-            Places::on_anchors(case)
+            Places {
+                kind: PlaceKind::Anchors,
+                count: case.opening().anchors as usize,
+            }
         }
     }
 
@@ -77,7 +82,11 @@ impl FailureMode for AnchorSteel {
     }
 
     fn resistance(&self, case: &ClosedCase, place: usize) -> Option<u64> {
-        let design = from_newtons(self.value).design(self.factor);
-        self.places(case).at_each(design.value, place)
+        let count = self.places(case).count;
+        at_each(
+            count,
+            from_newtons(self.value).design(self.factor).value,
+            place,
+        )
     }
 }

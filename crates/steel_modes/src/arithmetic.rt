@@ -1,11 +1,10 @@
-// Ranges, units, and the load of a bolt.
+// Ranges, units, and the number at a place.
 ghost use Rattle.std.specs.Prelude.{◌≡◌, ◌*◌, true, length, Some, None};
 ghost use Rattle.bolts.specs.Loads.{load_of};
 ghost use Rattle.bolts.specs.Bolts.{bolt_at};
 ghost use Rattle.forces.specs.Cases.{mn};
 ghost use Rattle.failure.specs.Meanings.{at_place};
-ghost use Rattle.steel_modes.specs.Ranges.{value_well};
-ghost use Rattle.steel_modes.specs.PullOut.{strength_well};
+ghost use Rattle.steel_modes.specs.Ranges.{value_well, strength_well};
 
 use crate::design::Characteristic;
 use bolts::bolt::{Bolt, Direction};
@@ -57,6 +56,13 @@ pub(crate) fn by_strength(value: u32, strength: u32) -> Characteristic
     Characteristic {
         hundredths: u64::from(value) * MILLI * u64::from(strength),
     }
+}
+
+// The same number at each place; none past the last.
+pub(crate) fn at_each(count: usize, value: u64, place: usize) -> Option<u64>
+    ensures { result ≡ at_place count (λ _. value) place }
+{
+    if place < count { Some(value) } else { None }
 }
 
 // The load of a bolt in mN; none past the last.

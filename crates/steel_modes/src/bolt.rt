@@ -1,14 +1,14 @@
 // The steel of a channel bolt.
 ghost use Rattle.std.specs.Prelude.{◌≡◌, true};
 ghost use Rattle.steel_modes.specs.Ranges.{Made, value_well};
-ghost use Rattle.steel_modes.specs.BoltSteel.{bolt_steel_meaning};
+ghost use Rattle.steel_modes.specs.Bolted.{bolt_steel_meaning};
 ghost use Rattle.std.proofs.Common.{rules, arith};
 
-use crate::arithmetic::{bolt_load, from_newtons, is_value_well};
+use crate::arithmetic::{at_each, bolt_load, from_newtons, is_value_well};
 use crate::design::PartialFactor;
 use bolts::bolt::Direction;
 use failure::mode::FailureMode;
-use failure::places::Places;
+use failure::places::{PlaceKind, Places};
 use loadcase::closed::ClosedCase;
 
 // The steel of a bolt in a direction: the characteristic resistance in N, and its partial factor.
@@ -38,9 +38,11 @@ impl BoltSteel {
 }
 
 impl FailureMode for BoltSteel {
+    ghost use Rattle.steel_modes.specs.Laws.{bolt_steel_lawful};
+
     ghost meaning = { λ m c. bolt_steel_meaning m.direction m.value m.factor c };
 
-    ghost lawful = { first_of (Prim.search rules, Prim.grind (arith, Self.row.coded.inj)) };
+    ghost lawful = { λ m. bolt_steel_lawful m.direction m.value m.factor m.ranged };
 
     ghost few = { first_of (Prim.search rules, Prim.grind (arith, Self.row.coded.inj)) };
 
@@ -57,7 +59,10 @@ impl FailureMode for BoltSteel {
     }
 
     fn places(&self, case: &ClosedCase) -> Places {
-        Places::on_bolts(case)
+        Places {
+            kind: PlaceKind::Bolts,
+            count: case.bolts().len(),
+        }
     }
 
     fn effect(&self, case: &ClosedCase, place: usize) -> Option<u64> {
@@ -65,7 +70,10 @@ impl FailureMode for BoltSteel {
     }
 
     fn resistance(&self, case: &ClosedCase, place: usize) -> Option<u64> {
-        let design = from_newtons(self.value).design(self.factor);
-        self.places(case).at_each(design.value, place)
+        at_each(
+            case.bolts().len(),
+            from_newtons(self.value).design(self.factor).value,
+            place,
+        )
     }
 }

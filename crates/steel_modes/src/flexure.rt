@@ -1,15 +1,15 @@
 // The bending of the channel between two neighbouring anchors.
 ghost use Rattle.std.specs.Prelude.{◌≡◌, true};
-ghost use Rattle.steel_modes.specs.Ranges.{Made};
-ghost use Rattle.steel_modes.specs.Flexure.{bending_well, flexure_meaning};
+ghost use Rattle.steel_modes.specs.Ranges.{Made, bending_well};
+ghost use Rattle.steel_modes.specs.Flexed.{flexure_meaning};
 ghost use Rattle.std.proofs.Common.{rules, arith};
 
-use crate::arithmetic::from_newtons;
+use crate::arithmetic::{at_each, from_newtons};
 use crate::design::PartialFactor;
 use crate::flexure::moment::{is_bending_well, moment};
 use bolts::bolt::Direction;
 use failure::mode::FailureMode;
-use failure::places::Places;
+use failure::places::{PlaceKind, Places};
 use loadcase::closed::ClosedCase;
 
 mod moment;
@@ -36,9 +36,11 @@ impl Flexure {
 }
 
 impl FailureMode for Flexure {
+    ghost use Rattle.steel_modes.specs.Laws.{flexure_keeps};
+
     ghost meaning = { λ m c. flexure_meaning m.value m.factor c };
 
-    ghost lawful = { first_of (Prim.search rules, Prim.grind (arith, Self.row.coded.inj)) };
+    ghost lawful = { λ m. flexure_keeps m.value m.factor m.ranged };
 
     ghost few = { first_of (Prim.search rules, Prim.grind (arith, Self.row.coded.inj)) };
 
@@ -55,7 +57,10 @@ impl FailureMode for Flexure {
     }
 
     fn places(&self, case: &ClosedCase) -> Places {
-        Places::on_bolts(case)
+        Places {
+            kind: PlaceKind::Bolts,
+            count: case.bolts().len(),
+        }
     }
 
     fn effect(&self, case: &ClosedCase, place: usize) -> Option<u64> {
@@ -67,7 +72,10 @@ impl FailureMode for Flexure {
     }
 
     fn resistance(&self, case: &ClosedCase, place: usize) -> Option<u64> {
-        let design = from_newtons(self.value).design(self.factor);
-        self.places(case).at_each(design.value, place)
+        at_each(
+            case.bolts().len(),
+            from_newtons(self.value).design(self.factor).value,
+            place,
+        )
     }
 }

@@ -1,7 +1,7 @@
 // The lips of the channel at a bolt.
 ghost use Rattle.std.specs.Prelude.{◌≡◌, true, ◌&&◌};
-ghost use Rattle.steel_modes.specs.Ranges.{Made, value_well};
-ghost use Rattle.steel_modes.specs.Lip.{spacing_well, lip_meaning};
+ghost use Rattle.steel_modes.specs.Ranges.{Made, value_well, spacing_well};
+ghost use Rattle.steel_modes.specs.Lips.{lip_meaning};
 ghost use Rattle.std.proofs.Common.{rules, arith};
 
 use crate::arithmetic::{bolt_load, is_value_well};
@@ -9,7 +9,7 @@ use crate::design::PartialFactor;
 use crate::lip::spacing::{is_spacing_well, lip_resistance, nearest_of};
 use bolts::bolt::Direction;
 use failure::mode::FailureMode;
-use failure::places::Places;
+use failure::places::{PlaceKind, Places};
 use loadcase::closed::ClosedCase;
 
 mod spacing;
@@ -50,9 +50,11 @@ impl Lip {
 }
 
 impl FailureMode for Lip {
+    ghost use Rattle.steel_modes.specs.Laws.{lip_lawful};
+
     ghost meaning = { λ m c. lip_meaning m.direction m.value m.factor m.spacing c };
 
-    ghost lawful = { first_of (Prim.search rules, Prim.grind (arith, Self.row.coded.inj)) };
+    ghost lawful = { λ m. lip_lawful m.direction m.value m.factor m.spacing m.ranged };
 
     ghost few = { first_of (Prim.search rules, Prim.grind (arith, Self.row.coded.inj)) };
 
@@ -69,7 +71,10 @@ impl FailureMode for Lip {
     }
 
     fn places(&self, case: &ClosedCase) -> Places {
-        Places::on_bolts(case)
+        Places {
+            kind: PlaceKind::Bolts,
+            count: case.bolts().len(),
+        }
     }
 
     fn effect(&self, case: &ClosedCase, place: usize) -> Option<u64> {

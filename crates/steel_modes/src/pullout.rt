@@ -1,14 +1,14 @@
 // The pull-out of an anchor.
 ghost use Rattle.std.specs.Prelude.{◌≡◌, true, ◌&&◌};
-ghost use Rattle.steel_modes.specs.Ranges.{Made, value_well};
-ghost use Rattle.steel_modes.specs.PullOut.{strength_well, pull_out_meaning};
+ghost use Rattle.steel_modes.specs.Ranges.{Made, value_well, strength_well};
+ghost use Rattle.steel_modes.specs.Anchored.{pull_out_meaning};
 ghost use Rattle.std.proofs.Common.{rules, arith};
 
-use crate::arithmetic::{by_strength, is_strength_well, is_value_well};
+use crate::arithmetic::{at_each, by_strength, is_strength_well, is_value_well};
 use crate::design::PartialFactor;
 use bolts::bolt::Direction;
 use failure::mode::FailureMode;
-use failure::places::Places;
+use failure::places::{PlaceKind, Places};
 use loadcase::closed::ClosedCase;
 
 // The pull-out in tension: the characteristic resistance in N, the factor for the concrete's strength in hundredths,
@@ -40,9 +40,11 @@ impl PullOut {
 }
 
 impl FailureMode for PullOut {
+    ghost use Rattle.steel_modes.specs.Laws.{pull_out_lawful};
+
     ghost meaning = { λ m c. pull_out_meaning m.value m.strength m.factor c };
 
-    ghost lawful = { first_of (Prim.search rules, Prim.grind (arith, Self.row.coded.inj)) };
+    ghost lawful = { λ m. pull_out_lawful m.value m.strength m.factor m.ranged m.strong };
 
     ghost few = { first_of (Prim.search rules, Prim.grind (arith, Self.row.coded.inj)) };
 
@@ -59,7 +61,10 @@ impl FailureMode for PullOut {
     }
 
     fn places(&self, case: &ClosedCase) -> Places {
-        Places::on_anchors(case)
+        Places {
+            kind: PlaceKind::Anchors,
+            count: case.opening().anchors as usize,
+        }
     }
 
     fn effect(&self, case: &ClosedCase, place: usize) -> Option<u64> {
@@ -67,7 +72,8 @@ impl FailureMode for PullOut {
     }
 
     fn resistance(&self, case: &ClosedCase, place: usize) -> Option<u64> {
+        let count = case.opening().anchors as usize;
         let design = by_strength(self.value, self.strength).design(self.factor);
-        self.places(case).at_each(design.value, place)
+        at_each(count, design.value, place)
     }
 }

@@ -20,14 +20,14 @@ fn asked_figures<S: RatingSheet>(
     line: usize,
     place: usize,
 ) -> Result<Shown, Refusal>
-    ensures { result ≡ show_answer (S.SheetLines.lines sheet.now (closed_case case.now)) line place }
+    ensures { result ≡ show_answer (S.RatingSheet.lines sheet.now (closed_case case.now)) line place }
 {
     sheet.show(case, line, place)
 }
 
 // What the sheet rates.
 fn asked_verdict<S: RatingSheet>(sheet: &S, case: &ClosedCase) -> Result<Verdict, Refusal>
-    ensures { result ≡ rate_answer (S.SheetLines.lines sheet.now (closed_case case.now)) }
+    ensures { result ≡ rate_answer (S.RatingSheet.lines sheet.now (closed_case case.now)) }
 {
     sheet.rate(case)
 }
@@ -39,8 +39,8 @@ pub fn show_place<S: RatingSheet>(
     line: usize,
     place: usize,
 ) -> Result<Shown, Refusal>
-    ensures value { result ≡ show_answer (S.SheetLines.lines sheet.now (closed_case case.now)) line place }
-    ensures faithful { IfOk result (Faithful (total_load (nth (S.SheetLines.lines sheet.now (closed_case case.now)) (line - 1)).direction (closed_case case.now).bolts) (nth (S.SheetLines.lines sheet.now (closed_case case.now)) (line - 1)) (place - 1)) }
+    ensures value { result ≡ show_answer (S.RatingSheet.lines sheet.now (closed_case case.now)) line place }
+    ensures faithful { IfOk result (Faithful (total_load (nth (S.RatingSheet.lines sheet.now (closed_case case.now)) (line - 1)).direction (closed_case case.now).bolts) (nth (S.RatingSheet.lines sheet.now (closed_case case.now)) (line - 1)) (place - 1)) }
 {
     asked_figures(sheet, case, line, place)
 }
@@ -48,10 +48,10 @@ pub fn show_place<S: RatingSheet>(
 // The verdict: accepted, and every verification holds exactly; or rejected, and some verification fails once effects
 // are raised and resistances lowered by a sliver. Its governing place has the largest utilisation.
 pub fn rate_case<S: RatingSheet>(sheet: &S, case: &ClosedCase) -> Result<Verdict, Refusal>
-    ensures value { result ≡ rate_answer (S.SheetLines.lines sheet.now (closed_case case.now)) }
-    ensures judged { IfOk result (λ v. Judged (closed_case case.now) (S.SheetLines.lines sheet.now (closed_case case.now)) v.accepted) }
-    ensures readable { Readable (S.SheetLines.lines sheet.now (closed_case case.now)) }
-    ensures governs { IfOk result (λ v. Governs (S.SheetLines.lines sheet.now (closed_case case.now)) line_count v.governing) }
+    ensures value { result ≡ rate_answer (S.RatingSheet.lines sheet.now (closed_case case.now)) }
+    ensures judged { IfOk result (λ v. Judged (closed_case case.now) (S.RatingSheet.lines sheet.now (closed_case case.now)) v.accepted) }
+    ensures readable { Readable (S.RatingSheet.lines sheet.now (closed_case case.now)) }
+    ensures governs { IfOk result (λ v. Governs (S.RatingSheet.lines sheet.now (closed_case case.now)) line_count v.governing) }
 {
     asked_verdict(sheet, case)
 }

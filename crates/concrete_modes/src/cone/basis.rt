@@ -1,6 +1,7 @@
 // The basic resistance of the cone, and its characteristic spacing.
 ghost use Rattle.std.specs.Prelude.{◌≡◌, ◌*◌, ◌<◌, ◌≤◌, true};
-ghost use Rattle.concrete_modes.specs.Cone.{cone_well, cone_square, cone_value, cone_spacing};
+ghost use Rattle.concrete.specs.Cone.{cone_square, cone_value, cone_spacing};
+ghost use Rattle.concrete_modes.specs.Cones.{cone_well};
 
 use crate::cone::ConeBasis;
 use groups::spacing::CharacteristicSpacing;
@@ -33,11 +34,8 @@ const PARTS: u64 = 90;
 
 const LEAST_MULTIPLE_OF_DEPTH: u64 = 300;
 
-// How often the square of the basic value in mN is taken, from numbers in tenths.
-const TIMES: u64 = 10;
-
-// Hundredths of a mN in 1 mN.
-const HUNDREDTHS: u64 = 100;
+// Hundredths of a mN in the unit of the basic value.
+const UNIT: u64 = 100;
 
 // Whether all numbers are in range.
 pub(crate) fn is_cone_well(basis: ConeBasis) -> bool
@@ -74,15 +72,15 @@ pub(crate) fn characteristic_spacing(basis: ConeBasis) -> CharacteristicSpacing
     }
 }
 
-// Ten times the square of the basic value in mN.
-fn square_of(k: u64, strength: u64, depth: u64, multiple: u64) -> u64
-    requires factor { k ≤ 130 }
-    requires strength { strength ≤ 75 }
-    requires depth { depth ≤ 2500 }
-    requires multiple { multiple ≤ 20 }
-    ensures { result ≡ cone_square k strength depth multiple }
+// Ten times the square of the basic value.
+fn square_of(basis: ConeBasis) -> u64
+    requires { cone_well basis.k basis.strength basis.depth basis.multiple ≡ true }
+    ensures { result ≡ cone_square basis.k basis.strength basis.depth basis.multiple }
 {
-    k * k * strength * (depth * depth * depth) * (multiple * multiple)
+    let k = u64::from(basis.k);
+    let depth = u64::from(basis.depth);
+    let multiple = u64::from(basis.multiple);
+    k * k * u64::from(basis.strength) * (depth * depth * depth) * (multiple * multiple)
 }
 
 // The basic resistance, as a characteristic value.
@@ -90,13 +88,7 @@ pub(crate) fn basic_value(basis: ConeBasis) -> Characteristic
     requires { cone_well basis.k basis.strength basis.depth basis.multiple ≡ true }
     ensures { result.hundredths ≡ cone_value basis.k basis.strength basis.depth basis.multiple * 100 }
 {
-    let square = square_of(
-        u64::from(basis.k),
-        u64::from(basis.strength),
-        u64::from(basis.depth),
-        u64::from(basis.multiple),
-    );
     Characteristic {
-        hundredths: square_root(square / TIMES) * HUNDREDTHS,
+        hundredths: square_root(square_of(basis) / 10) * UNIT,
     }
 }

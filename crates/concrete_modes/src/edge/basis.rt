@@ -1,13 +1,11 @@
 // Ranges, characteristic spacing and values of the edge.
 ghost use Rattle.std.specs.Prelude.{◌≡◌, ◌*◌, ◌<◌, ◌≤◌, true};
-ghost use Rattle.concrete_modes.specs.Shared.{well_of, edge_spacing};
-ghost use Rattle.concrete_modes.specs.EdgeFirst.{edge_first, edge_square};
-ghost use Rattle.concrete_modes.specs.EdgeSecond.{edge_second, strength_root, distance_root};
+ghost use Rattle.concrete.specs.Edge.{edge_first, edge_second, edge_square, strength_root, distance_root};
+ghost use Rattle.concrete_modes.specs.Edges.{well_of, edge_spacing};
 
 use crate::edge::EdgeBasis;
 use groups::spacing::CharacteristicSpacing;
 use roots::whole::{cube_root, square_root};
-use steel_modes::design::Characteristic;
 
 const LEAST_K: u32 = 10;
 
@@ -29,9 +27,6 @@ const LEAST_P: u32 = 100;
 
 const MOST_P: u32 = 140;
 
-// µm in a tenth of a millimetre.
-const TENTH: u64 = 100;
-
 // What the strength is multiplied by under its square root, for millionths, and the edge distance in tenths under its
 // cube root, for hundred-thousandths of that in mm.
 const STRENGTH_SCALE: u64 = 1_000_000_000_000;
@@ -40,12 +35,6 @@ const DISTANCE_SCALE: u64 = 100_000_000_000_000;
 
 // What the product of both roots is divided by, for mN.
 const BOTH_SCALES: u64 = 10_000_000_000;
-
-// What the square of the value by edition 1 is multiplied by, for that of mN from numbers in tenths.
-const SQUARE_SCALE: u64 = 10;
-
-// The allowance of the edge, in millionths.
-pub(crate) const ALLOWANCE: u32 = 10;
 
 // Whether all numbers are in range.
 pub(crate) fn is_edge_well(basis: EdgeBasis) -> bool
@@ -69,77 +58,54 @@ pub(crate) fn edge_spacing(basis: EdgeBasis) -> CharacteristicSpacing
     ensures { result.um ≡ edge_spacing basis.distance basis.width }
 {
     CharacteristicSpacing {
-        um: TENTH * (4 * u64::from(basis.distance) + 2 * u64::from(basis.width)),
+        um: 400 * u64::from(basis.distance) + 200 * u64::from(basis.width),
     }
 }
 
 // The square root of the strength, in millionths.
-fn strength_root(strength: u64) -> u64
+fn strength_root(strength: u32) -> u64
     requires { strength ≤ 75 }
     ensures value { result ≡ strength_root strength }
     ensures small { result ≤ 9000000 }
 {
-    square_root(strength * STRENGTH_SCALE)
+    square_root(u64::from(strength) * STRENGTH_SCALE)
 }
 
 // The cube root of the edge distance in mm, in hundred-thousandths.
-fn distance_root(distance: u64) -> u64
+fn distance_root(distance: u32) -> u64
     requires { distance ≤ 5000 }
     ensures value { result ≡ distance_root distance }
     ensures small { result ≤ 800000 }
 {
-    cube_root(distance * DISTANCE_SCALE)
-}
-
-// The value by edition 2, times p: a characteristic value.
-pub(crate) fn second_value(basis: EdgeBasis) -> Characteristic
-    requires { well_of basis ≡ true }
-    ensures { result.hundredths ≡ edge_second basis.k basis.strength basis.distance * basis.p }
-{
-    let value = second_root(
-        u64::from(basis.k),
-        u64::from(basis.strength),
-        u64::from(basis.distance),
-    );
-    Characteristic {
-        hundredths: value * u64::from(basis.p),
-    }
+    cube_root(u64::from(distance) * DISTANCE_SCALE)
 }
 
 // The value by edition 2, in mN.
-fn second_root(k: u64, strength: u64, distance: u64) -> u64
-    requires factor { k ≤ 110 }
-    requires strength { strength ≤ 75 }
-    requires distance { distance ≤ 5000 }
-    ensures value { result ≡ edge_second k strength distance }
+pub(crate) fn second_value(basis: EdgeBasis) -> u64
+    requires { well_of basis ≡ true }
+    ensures value { result ≡ edge_second basis.k basis.strength basis.distance }
     ensures small { result ≤ 400000000 }
 {
-    let g = strength_root(strength);
-    let t = distance_root(distance);
-    k * g * distance * t / BOTH_SCALES
+    let g = strength_root(basis.strength);
+    let t = distance_root(basis.distance);
+    u64::from(basis.k) * g * u64::from(basis.distance) * t / BOTH_SCALES
 }
 
-// The value by edition 1, times p: a characteristic value.
-pub(crate) fn first_value(basis: EdgeBasis) -> Characteristic
+// The square of the value by edition 1.
+fn first_square(basis: EdgeBasis) -> u64
     requires { well_of basis ≡ true }
-    ensures { result.hundredths ≡ edge_first basis.k basis.strength basis.distance * basis.p }
+    ensures { result ≡ edge_square basis.k basis.strength basis.distance }
 {
-    let square = first_square(
-        u64::from(basis.k),
-        u64::from(basis.strength),
-        u64::from(basis.distance),
-    );
-    Characteristic {
-        hundredths: square_root(square) * u64::from(basis.p),
-    }
+    let k = u64::from(basis.k);
+    let c = u64::from(basis.distance);
+    k * k * u64::from(basis.strength) * (c * c * c) * 10
 }
 
-// The square of the value by edition 1 in mN.
-fn first_square(k: u64, strength: u64, distance: u64) -> u64
-    requires factor { k ≤ 110 }
-    requires strength { strength ≤ 75 }
-    requires distance { distance ≤ 5000 }
-    ensures { result ≡ edge_square k strength distance }
+// The value by edition 1, in mN.
+pub(crate) fn first_value(basis: EdgeBasis) -> u64
+    requires { well_of basis ≡ true }
+    ensures value { result ≡ edge_first basis.k basis.strength basis.distance }
+    ensures small { result < 4294967296 }
 {
-    k * k * strength * (distance * distance * distance) * SQUARE_SCALE
+    square_root(first_square(basis))
 }

@@ -1,21 +1,20 @@
 // The concrete edge by the rules of edition 1.
 ghost use Rattle.std.specs.Prelude.{◌≡◌, true};
 ghost use Rattle.steel_modes.specs.Ranges.{Made};
-ghost use Rattle.concrete_modes.specs.Shared.{well_of, edge_spacing};
-ghost use Rattle.concrete_modes.specs.EdgeFirst.{first_meaning};
-ghost use Rattle.concrete_modes.specs.Bounds.{edge_bounds};
-ghost use Rattle.concrete_modes.specs.Edges.{first_lawful};
+ghost use Rattle.concrete_modes.specs.Edges.{well_of, edge_spacing, first_meaning};
 ghost use Rattle.std.proofs.Common.{rules, arith};
 
 use crate::edge::EdgeBasis;
-use crate::edge::basis::{ALLOWANCE, edge_spacing, first_value, is_edge_well};
+use crate::edge::basis::{edge_spacing, first_value, is_edge_well};
 use bolts::bolt::Direction;
 use failure::mode::FailureMode;
-use failure::places::Places;
+use failure::places::{PlaceKind, Places};
 use groups::effect::group_effect;
 use groups::spacing::CharacteristicSpacing;
 use loadcase::closed::ClosedCase;
-use steel_modes::design::PartialFactor;
+use steel_modes::design::{Characteristic, PartialFactor};
+
+const ALLOWANCE: u32 = 10;
 
 // The edge in shear, with the partial factor of concrete.
 #[derive(Clone, Copy)]
@@ -46,11 +45,11 @@ impl FirstEdge {
 }
 
 impl FailureMode for FirstEdge {
+    ghost use Rattle.concrete_modes.specs.Laws.{first_keeps};
+
     ghost meaning = { λ m c. first_meaning m.spacing m.basis m.factor c };
 
-    ghost lawful = { λ m c valid i here.
-        let b = m.basis in
-        first_lawful m.spacing b m.factor c valid (edge_bounds b.k b.strength b.distance b.width b.p m.ranged) i };
+    ghost lawful = { λ m. first_keeps m.basis m.ranged m.spacing m.factor };
 
     ghost few = { first_of (Prim.search rules, Prim.grind (arith, Self.row.coded.inj)) };
 
@@ -67,7 +66,10 @@ impl FailureMode for FirstEdge {
     }
 
     fn places(&self, case: &ClosedCase) -> Places {
-        Places::on_anchors(case)
+        Places {
+            kind: PlaceKind::Anchors,
+            count: case.opening().anchors as usize,
+        }
     }
 
     fn effect(&self, case: &ClosedCase, place: usize) -> Option<u64> {
@@ -75,7 +77,10 @@ impl FailureMode for FirstEdge {
     }
 
     fn resistance(&self, case: &ClosedCase, place: usize) -> Option<u64> {
-        let design = first_value(self.basis).design(self.factor);
-        self.places(case).at_each(design.value, place)
+        if place >= case.opening().anchors as usize {
+            return None;
+        }
+        let hundredths = first_value(self.basis) * u64::from(self.basis.p);
+        Some(Characteristic { hundredths }.design(self.factor).value)
     }
 }

@@ -4,12 +4,11 @@ use Rattle.roots.specs.Extremes.{by_bits, greatest_of, least_of}
 use Rattle.influence.proofs.Figure.{figure_root, figure_length}
 use Rattle.bolts.specs.declared.bolt.Direction.TheVariants.{Tension}
 use Rattle.forces.specs.Cases.{force_by}
-use Rattle.verdict.specs.Checks.{check_1}
 use Rattle.figures.specs.Worked.{WorkedFigures, two_anchors}
 use Rattle.figures.proofs.figures_hold.Goals as goal
 
 worked : WorkedFigures
-unfolding greatest_of least_of by_bits check_1
+unfolding greatest_of least_of by_bits
 worked =
     record {
       root = figure_root;
@@ -19,16 +18,9 @@ worked =
       spacing = refl;
       root_reduction = refl;
       neighbour = refl;
-      cone = λ S c i. refl;
-      edge = λ S c b i. refl;
-      check_holds = refl;
-      check_fails = refl;
+      cone = refl;
+      edge = refl;
     }
 
 pub returns : goal.returns
-returns c =
-    record {
-      figures = worked;
-      length = c.worked-length.ensures ∙ worked.length;
-      neighbour = c.worked-neighbour.ensures ∙ worked.neighbour;
-    }
+returns c = record { figures = worked; count = c.count_of_figures.ensures }

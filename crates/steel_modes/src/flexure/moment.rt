@@ -1,14 +1,15 @@
 // The bending moment at a bolt, of the loads in its span. Lengths in µm, loads in mN, moments in thousandths of a
 // newton-metre.
-ghost use Rattle.std.specs.Prelude.{◌≡◌, ℕ, ◌*◌, ◌%◌, ◌<◌, ◌≤◌, length, sum_by};
+ghost use Rattle.std.specs.Prelude.{◌≡◌, ℕ, ◌+◌, ◌-◌, ◌*◌, ◌/◌, ◌%◌, ◌<◌, ◌≤◌, min, length, sum_by};
 ghost use Rattle.bolts.specs.Bolts.{bolt_at};
+ghost use Rattle.roots.specs.Division.{up};
 ghost use Rattle.forces.specs.Cases.{um};
 ghost use Rattle.loadcase.specs.Closed.{closed_case};
-ghost use Rattle.steel_modes.specs.Flexure.{bending_well, part_up, moment_at};
+ghost use Rattle.steel_modes.specs.Ranges.{bending_well};
+ghost use Rattle.steel_modes.specs.Spans.{greater, part_up, moment_at};
 
 use bolts::bolt::Bolt;
 use loadcase::closed::ClosedCase;
-use roots::division::{Divisor, div_up};
 
 // The least and the greatest resistance, in newton-metres.
 const LEAST_BENDING: u32 = 100;
@@ -68,11 +69,12 @@ fn part(spacing: u32, here: Bolt, other: Bolt) -> u64
     let x = offset(spacing, here.position);
     let y = offset(spacing, other.position);
     let span = TENTH * u64::from(spacing);
-    let above = product(MILLI * u64::from(other.tension), x.min(y), span - x.max(y));
-    let below = Divisor {
-        number: span * MILLION,
-    };
-    div_up(above, below)
+    let above = product(
+        MILLI * u64::from(other.tension),
+        smaller(x, y),
+        span - larger(x, y),
+    );
+    quotient_up(above, span)
 }
 
 // How far a position lies from the anchor on its left.
@@ -84,12 +86,36 @@ fn offset(spacing: u32, position: u32) -> u64
     TENTH * u64::from(position % spacing)
 }
 
+fn smaller(x: u64, y: u64) -> u64
+    ensures { result ≡ min x y }
+{
+    if x < y { x } else { y }
+}
+
+fn larger(x: u64, y: u64) -> u64
+    ensures { result ≡ greater x y }
+{
+    if x < y { y } else { x }
+}
+
 // The load times two distances.
 fn product(load: u64, near: u64, rest: u64) -> u64
     requires load { load ≤ 200000000 }
     requires near { near ≤ 250000 }
     requires rest { rest ≤ 250000 }
-    ensures { result ≡ load * near * rest }
+    ensures value { result ≡ load * near * rest }
+    ensures small { result ≤ 12500000000000000000 }
 {
     load * near * rest
+}
+
+// The product over the span, up.
+fn quotient_up(above: u64, span: u64) -> u64
+    requires small { above ≤ 12500000000000000000 }
+    requires least { 50000 ≤ span }
+    requires most { span ≤ 250000 }
+    ensures { result ≡ up above (span * 1000000) }
+{
+    let below = span * MILLION;
+    (above + (below - 1)) / below
 }

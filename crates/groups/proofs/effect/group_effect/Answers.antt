@@ -15,7 +15,7 @@ returns c =
     let pos = c.args.spacing.some in
     let v = valid_of w.within in
     let here : k < w.within.anchors = omega (arith, ap (λ o. o.anchors) c.opening-opening.ensures, c.if-k-opening.false) in
-    let e = c.sum-of-parts.ensures in
+    let e = c.sum_of_parts.ensures in
     record {
       value = ap Some e ∙ sym (cond-true _ _ _ (lt-ltb k w.within.anchors here));
       never_below = subst (NeverBelowGroup S pos (closed_case w) d k) (sym e) (effect_covers S pos (closed_case w) d k v);

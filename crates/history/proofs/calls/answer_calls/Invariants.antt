@@ -7,4 +7,4 @@ abbrev pub invariant-loop-call : goal.invariant-loop-call
 invariant-loop-call g l =
     (vec_len l.answers ≡ l.call-index)
     × (length l.calls ≤ vec_capacity l.answers)
-    × (vec_items l.answers ++ history (g.S.SheetLines.lines l.sheet) (standing l.case) (drop l.call-index l.calls) ≡ history (g.S.SheetLines.lines l.sheet) (standing l.initial.case) l.calls)
+    × (vec_items l.answers ++ history (g.S.RatingSheet.lines l.sheet) (standing l.case) (drop l.call-index l.calls) ≡ history (g.S.RatingSheet.lines l.sheet) (standing l.initial.case) l.calls)

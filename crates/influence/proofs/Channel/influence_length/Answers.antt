@@ -10,7 +10,7 @@ returns c =
     let i = c.args.self.now.inertia in
     let s = c.args.self.now.spacing in
     let r : InRange i s = record { stiff = omega arith; slender = omega arith; wide = omega arith; narrow = omega arith } in
-    let is : influence_length i s ≡ c.rounded-length.result = sym c.rounded-length.ensures in
+    let is : influence_length i s ≡ c.rounded_length.result = sym c.rounded_length.ensures in
     record {
       value = sym is;
       steps = subst (λ (l : ℕ). StepsTo i s l) is (length_steps i s r);

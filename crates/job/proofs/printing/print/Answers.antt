@@ -21,7 +21,7 @@ pub loop-outcome-preserved : goal.loop-outcome-preserved
 unfolding first
 loop-outcome-preserved c =
     text_more c.args.outcomes.now c.loop-outcome.outcome-index first _ _ _ c.loop-outcome-test.true
-    (c.in-ok-push-str.ensures.bytes ∙ ap (λ zs. string_bytes c.loop-outcome.out ++ zs) (c.as-str.ensures.value ∙ c.in-ok-line.ensures))
+    (c.in_ok-push_str.ensures.bytes ∙ ap (λ zs. string_bytes c.loop-outcome.out ++ zs) (c.as_str.ensures.value ∙ c.in_ok-line.ensures))
     c.loop-outcome.invariant
 
 pub returns : goal.returns

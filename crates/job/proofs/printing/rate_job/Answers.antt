@@ -18,4 +18,4 @@ ended bs text fault.Memory (Err e) stopped h = tt
 
 pub returns-in-Err : goal.returns-in-Err
 returns-in-Err c =
-    ended c.args.certificate.now c.args.job.now c.in-Err.fault c.print-fault.result c.in-Err.ensures c.print-fault.ensures
+    ended c.args.certificate.now c.args.job.now c.in-Err.fault c.print_fault.result c.in-Err.ensures c.print_fault.ensures

@@ -6,5 +6,5 @@ use Rattle.job_text.proofs.line.is_name.Goals as goal
 
 pub returns : goal.returns
 returns c =
-    let d = slice_eq-Decides Decides-eqb c.args.word.now c.as-bytes.result.now c.eq.result c.eq.ensures in
-    same_from_decides c.eq.result (bytes_eq c.args.word.now c.as-bytes.result.now) d (bytes_eq-Decides c.args.word.now c.as-bytes.result.now) ∙ ap (bytes_eq c.args.word.now) c.as-bytes.ensures.value
+    let d = slice_eq-Decides Decides-eqb c.args.word.now c.as_bytes.result.now c.eq.result c.eq.ensures in
+    same_from_decides c.eq.result (bytes_eq c.args.word.now c.as_bytes.result.now) d (bytes_eq-Decides c.args.word.now c.as_bytes.result.now) ∙ ap (bytes_eq c.args.word.now) c.as_bytes.ensures.value

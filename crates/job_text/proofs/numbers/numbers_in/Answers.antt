@@ -12,20 +12,20 @@ left o = words_after (option_map (λ x. x.now) o)
 pub loop-k-init : goal.loop-k-init
 loop-k-init g c = (read_none _ _, length-replicate g.row.N 0)
 
-pub returns-in-err-rest : goal.returns-in-err-rest
-returns-in-err-rest g c =
-    c.from-residual.ensures ∙ read_short g.row.N _ _ _ _ c.loop-k.invariant.0 (ap left c.in-err-rest.was) c.loop-k-test.true
+pub returns-in_err-rest : goal.returns-in_err-rest
+returns-in_err-rest g c =
+    c.from_residual.ensures ∙ read_short g.row.N _ _ _ _ c.loop-k.invariant.0 (ap left c.in_err-rest.was) c.loop-k-test.true
 
-pub returns-in-err-numbers : goal.returns-in-err-numbers
-returns-in-err-numbers g c =
-    let e = ap left c.in-ok-rest.was ∙ c.cut-word-cut.ensures.words in
-    let f = sym c.number-in.ensures.value ∙ c.in-err-numbers.was in
-    c.from-residual-in-err-numbers.ensures ∙ read_wrong g.row.N _ _ _ _ _ _ c.loop-k.invariant.0 e f
+pub returns-in_err-numbers : goal.returns-in_err-numbers
+returns-in_err-numbers g c =
+    let e = ap left c.in_ok-rest.was ∙ c.cut_word-cut.ensures.words in
+    let f = sym c.number_in.ensures.value ∙ c.in_err-numbers.was in
+    c.from_residual-in_err-numbers.ensures ∙ read_wrong g.row.N _ _ _ _ _ _ c.loop-k.invariant.0 e f
 
 pub loop-k-preserved : goal.loop-k-preserved
 loop-k-preserved g c =
-    let e = ap left c.in-ok-rest.was ∙ c.cut-word-cut.ensures.words in
-    let f = sym c.number-in.ensures.value ∙ c.in-ok-numbers.was in
+    let e = ap left c.in_ok-rest.was ∙ c.cut_word-cut.ensures.words in
+    let f = sym c.number_in.ensures.value ∙ c.in_ok-numbers.was in
     let n : length c.loop-k.numbers ≡ g.row.N = c.loop-k.invariant.1 in
     let t : c.loop-k.k < g.row.N = c.loop-k-test.true in
     (read_more _ _ _ _ _ _ _ c.loop-k.invariant.0 e f (omega arith), simp length-set n)

@@ -25,7 +25,7 @@ factor_lawful xs f (Some v) l h = let b = l.factors h.0 h.1.inside in subst (Bet
 pub returns : goal.returns
 returns c = record {
   value =
-      subst (λ l. FactorIn l c.args.strength c.factor-in.result)
-      (chosen c.args.certificate.now.bytes.now _ _ c.args.concrete c.strengths.ensures.bytes c.strengths-2.ensures.bytes) c.factor-in.ensures;
-  lawful = λ ok. factor_lawful _ _ _ (chosen_lawful _ _ c.args.concrete (c.strengths.ensures.lawful ok) (c.strengths-2.ensures.lawful ok)) c.factor-in.ensures;
+      subst (λ l. FactorIn l c.args.strength c.factor_in.result)
+      (chosen c.args.certificate.now.bytes.now _ _ c.args.concrete c.strengths.ensures.bytes c.strengths-2.ensures.bytes) c.factor_in.ensures;
+  lawful = λ ok. factor_lawful _ _ _ (chosen_lawful _ _ c.args.concrete (c.strengths.ensures.lawful ok) (c.strengths-2.ensures.lawful ok)) c.factor_in.ensures;
 }

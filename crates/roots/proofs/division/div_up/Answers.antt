@@ -8,9 +8,9 @@ pub returns : goal.returns
 returns c =
     let a = c.args.a in
     let d = c.args.by.number in
-    let r = c.quotient-up.result in
+    let r = c.quotient_up.result in
     let is : Least (λ n. a ≤ n * d) r =
-    quotient_is a d r c.quotient-up.ensures.covers c.quotient-up.ensures.near in
+    quotient_is a d r c.quotient_up.ensures.covers c.quotient_up.ensures.near in
     record {
       is = is;
       value = least_one _ _ _ is (up_is a d (omega arith));

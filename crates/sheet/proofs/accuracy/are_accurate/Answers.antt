@@ -4,8 +4,8 @@ use Rattle.verdict.specs.Checks.{all_below}
 use Rattle.verdict.proofs.Below.{none_from, all_more}
 use Rattle.sheet.proofs.accuracy.are_accurate.Goals as goal
 
-pub returns-then-allowances-k-gt-MOST-ALLOWANCE : goal.returns-then-allowances-k-gt-MOST-ALLOWANCE
-returns-then-allowances-k-gt-MOST-ALLOWANCE c =
+pub returns-then-allowances-k-gt-MOST_ALLOWANCE : goal.returns-then-allowances-k-gt-MOST_ALLOWANCE
+returns-then-allowances-k-gt-MOST_ALLOWANCE c =
     let xs = c.args.allowances.now in
     let k = c.loop-k.k in
     sym (none_from 13 (λ j. leb (get_or xs j 0) 600) k c.loop-k-test.true (lt-leb (get_or xs k 0) 600 (omega arith)))

@@ -16,17 +16,15 @@ all g c =
     filled (g.M.FailureMode.meaning mode case) c.loop-place.figures c.loop-place.invariant.0 few
     (λ i inside. c.loop-place.invariant.1 i (omega arith))
 
-pub invariant-of-result : goal.invariant-of-result
-invariant-of-result g c =
+pub invariant_of-result : goal.invariant_of-result
+invariant_of-result g c =
     let mode = c.args.mode.now in
     let case = closed_case c.args.case.now in
-    let few = g.met.M.FailureMode.few mode case (valid_of c.args.case.now.within) in (
-      omega (arith, few, ap (λ p. p.count) c.places-places.ensures),
-      (
-        filled_consistent (g.M.FailureMode.meaning mode case) c.loop-place.figures (all g c),
-        tt,
-      ),
-    )
+    let few = g.met.M.FailureMode.few mode case (valid_of c.args.case.now.within) in
+    record {
+      few = omega (arith, few, ap (λ p. p.count) c.places-places.ensures);
+      consistent = filled_consistent (g.M.FailureMode.meaning mode case) c.loop-place.figures (all g c);
+    }
 
 pub returns : goal.returns
 returns g c =

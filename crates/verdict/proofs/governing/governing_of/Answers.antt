@@ -18,8 +18,8 @@ pub loop-k-preserved : goal.loop-k-preserved
 loop-k-preserved c =
     let rs = c.args.rows.now in
     let r = c.index-rows-k.result in
-    step (row_lines rs) (row_line (get_or rs c.loop-k.k r)) c.loop-k.best c.with-line-best.result c.loop-k.k
-    (nth_read rs c.loop-k.k r c.told-rows c.loop-k-test.true) c.loop-k.invariant c.with-line-best.ensures
+    step (row_lines rs) (row_line (get_or rs c.loop-k.k r)) c.loop-k.best c.with_line-best.result c.loop-k.k
+    (nth_read rs c.loop-k.k r c.told-rows c.loop-k-test.true) c.loop-k.invariant c.with_line-best.ensures
 
 pub returns : goal.returns
 unfolding governing

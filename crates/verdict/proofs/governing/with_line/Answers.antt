@@ -15,8 +15,8 @@ step g b h l m n u is shows e =
 
 pub loop-i-preserved : goal.loop-i-preserved
 loop-i-preserved c =
-    step c.args.before c.loop-i.best c.larger-of-best.result c.args.line (row_line c.args.row.now) c.loop-i.i c.utilisation.result
-    c.loop-i.invariant c.utilisation.ensures c.larger-of-best.ensures
+    step c.args.before c.loop-i.best c.larger_of-best.result c.args.line (row_line c.args.row.now) c.loop-i.i c.utilisation.result
+    c.loop-i.invariant c.utilisation.ensures c.larger_of-best.ensures
 
 pub returns : goal.returns
 returns c =

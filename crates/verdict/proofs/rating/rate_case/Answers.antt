@@ -13,11 +13,11 @@ pub returns : goal.returns
 returns g c =
     let sheet = c.args.sheet.now in
     let case = closed_case c.args.case.now in
-    let ms = g.S.SheetLines.lines sheet case in
-    let law = g.S.SheetLines.lawful sheet case (valid_of c.args.case.now.within) in
+    let ms = g.S.RatingSheet.lines sheet case in
+    let law = g.met.S.RatingSheet.lawful sheet case (valid_of c.args.case.now.within) in
     record {
-      value = c.asked-verdict.ensures;
-      judged = rated ms (λ v. Judged case ms v.accepted) c.asked-verdict.result c.asked-verdict.ensures (judges_rated case ms law);
+      value = c.asked_verdict.ensures;
+      judged = rated ms (λ v. Judged case ms v.accepted) c.asked_verdict.result c.asked_verdict.ensures (judges_rated case ms law);
       readable = readable case ms law;
-      governs = rated ms (λ v. Governs ms line_count v.governing) c.asked-verdict.result c.asked-verdict.ensures (λ _. governed ms);
+      governs = rated ms (λ v. Governs ms line_count v.governing) c.asked_verdict.result c.asked_verdict.ensures (λ _. governed ms);
     }

@@ -7,14 +7,14 @@ use Rattle.verdict.proofs.Below.{none_from, all_more}
 use Rattle.verdict.proofs.Told.{nth_read}
 use Rattle.verdict.proofs.table.none_past.Goals as goal
 
-pub returns-then-not-is-within : goal.returns-then-not-is-within
+pub returns-then-not-is_within : goal.returns-then-not-is_within
 unfolding none_over
-returns-then-not-is-within c =
+returns-then-not-is_within c =
     let rs = c.args.rows.now in
     let k = c.loop-k.k in
     let told = nth_read rs k c.index-rows-k.result c.told-rows c.loop-k-test.true in
     sym (none_from 13 (λ j. line_within (nth (row_lines rs) j)) k c.loop-k-test.true
-    (ap (λ (m : Meaning). line_within m) told ∙ sym c.if-not-is-within.ensures))
+    (ap (λ (m : Meaning). line_within m) told ∙ sym c.if-not-is_within.ensures))
 
 pub loop-k-preserved : goal.loop-k-preserved
 loop-k-preserved c =
@@ -22,7 +22,7 @@ loop-k-preserved c =
     let k = c.loop-k.k in
     let told = nth_read rs k c.index-rows-k.result c.told-rows c.loop-k-test.true in
     all_more k (λ j. line_within (nth (row_lines rs) j)) c.loop-k.invariant
-    (ap (λ (m : Meaning). line_within m) told ∙ sym c.if-not-is-within.ensures)
+    (ap (λ (m : Meaning). line_within m) told ∙ sym c.if-not-is_within.ensures)
 
 pub returns : goal.returns
 unfolding none_over

@@ -19,6 +19,6 @@ pub returns : goal.returns
 returns c =
     let ms = row_lines c.args.rows.now in
     record {
-      value = made ms c.is-accepted.result c.governing-of.result c.first-failed-failed-check.result c.is-accepted.ensures c.governing-of.ensures c.first-failed-failed-check.ensures;
-      governs = subst (λ (g : Governing). Governs ms line_count g) (sym c.governing-of.ensures) (governed ms);
+      value = made ms c.is_accepted.result c.governing_of.result c.first_failed-failed_check.result c.is_accepted.ensures c.governing_of.ensures c.first_failed-failed_check.ensures;
+      governs = subst (λ (g : Governing). Governs ms line_count g) (sym c.governing_of.ensures) (governed ms);
     }

@@ -14,5 +14,5 @@ here c =
 next : (c : goal.After-index-2) → c.index.result.now.position ≡ position_at (held c.args.self.now) (c.args.k + 1)
 next c = ap (λ (b : Bolt). b.position) (get_or_read _ (c.args.k + 1) _ c.requires c.index.ensures no_bolt)
 
-pub overflow-sub-result : goal.overflow-sub-result
-overflow-sub-result c = omega (arith, here c, next c, c.args.self.now.spaced c.args.k c.requires)
+pub overflow_sub-result : goal.overflow_sub-result
+overflow_sub-result c = omega (arith, here c, next c, c.args.self.now.spaced c.args.k c.requires)

@@ -20,22 +20,28 @@ belongs c =
     record { within = search rules; before = rw e at s.before; stop = rw e at s.stop }
 
 is_clear : (c : goal.After-insert) → clear c.args.bolt.position (row c) ≡ true
-is_clear c = rw c.deref.ensures.value at (sym c.is_clear.ensures ∙ c.if-not-is-clear.false)
+is_clear c = rw c.deref.ensures.value at (sym c.is_clear.ensures ∙ c.if-not-is_clear.false)
 
 is_loaded : (c : goal.After-insert) → loaded c.args.bolt ≡ true
-is_loaded c = sym c.is_loaded.ensures ∙ c.if-not-is-loaded.false
+is_loaded c = sym c.is_loaded.ensures ∙ c.if-not-is_loaded.false
 
 went_in : (c : goal.After-insert) → vec_items c.insert.new.self ≡ insert (row c) c.slot-i.result c.args.bolt
 went_in c =
     let ok : is_ok c.insert.result ≡ true = c.insert.ensures.succeeds (omega arith) in
     simp ok at c.insert.ensures.items
 
-pub invariant-of-self : goal.invariant-of-self
-invariant-of-self c =
+pub invariant_of-self : goal.invariant_of-self
+invariant_of-self c =
     let s = c.args.self.now.spaced in
     let spaced = spaced_inserted _ _ _ s (belongs c) (is_clear c) in
     let sound = sound_inserted _ _ _ s (belongs c) (is_clear c) _ c.args.self.now.sound c.if-bolt-self.false (is_loaded c) in
-    (search rules, (search rules, (search rules, (subst Spaced (sym (went_in c)) spaced, (subst (Sound _) (sym (went_in c)) sound, tt)))))
+    record {
+      short = search rules;
+      few = search rules;
+      room = search rules;
+      spaced = subst Spaced (sym (went_in c)) spaced;
+      sound = subst (Sound _) (sym (went_in c)) sound;
+    }
 
 pub returns : goal.returns
 returns c =

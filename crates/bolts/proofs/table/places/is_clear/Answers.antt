@@ -4,8 +4,8 @@ use Rattle.std.proofs.lemmas.Bool.Decides.{nat_tests}
 use Rattle.bolts.specs.Bolts.{clear, no_bolt}
 use Rattle.bolts.proofs.table.places.is_clear.Goals as goal
 
-pub returns-then-not-are-apart : goal.returns-then-not-are-apart
-returns-then-not-are-apart c =
+pub returns-then-not-are_apart : goal.returns-then-not-are_apart
+returns-then-not-are_apart c =
     let e = at_drop_more (clear c.args.position) c.args.bolts.now c.loop-b.b-index no_bolt c.loop-b-test.true in
     grind (arith, nat_tests, e, c.loop-b.invariant)
 

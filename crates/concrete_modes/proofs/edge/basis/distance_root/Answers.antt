@@ -1,8 +1,11 @@
-use Rattle.std.proofs.Common.{arith}
-use Rattle.concrete_modes.specs.Products.{distance_le}
+use Rattle.std.proofs.Common.{ℕ, ◌*◌, ◌^◌, ap, ◌∙◌, arith}
+use Rattle.roots.specs.Roots.{cube_root_of}
+use Rattle.concrete_modes.specs.Sizes.{distance_le}
 use Rattle.concrete_modes.proofs.edge.basis.distance_root.Goals as goal
 
 pub returns : goal.returns
 returns c =
-    let r = c.cube-root.ensures in
-    record { value = r.value; small = distance_le c.cube-root.result c.args.distance c.requires (omega (arith, r.is.fits)) }
+    record {
+      value = c.cube_root.ensures.value ∙ ap (λ (n : ℕ). cube_root_of (n * 10 ^ 14)) c.from.ensures;
+      small = distance_le c.cube_root.result c.args.distance c.requires (omega (arith, c.cube_root.ensures.is.fits, c.from.ensures));
+    }

@@ -1,8 +1,11 @@
-use Rattle.std.proofs.Common.{arith}
-use Rattle.concrete_modes.specs.Products.{strength_le}
+use Rattle.std.proofs.Common.{ℕ, ◌*◌, ◌^◌, ap, ◌∙◌, arith}
+use Rattle.roots.specs.Roots.{square_root_of}
+use Rattle.concrete_modes.specs.Sizes.{strength_le}
 use Rattle.concrete_modes.proofs.edge.basis.strength_root.Goals as goal
 
 pub returns : goal.returns
 returns c =
-    let r = c.square-root.ensures in
-    record { value = r.value; small = strength_le c.square-root.result c.args.strength c.requires (omega (arith, r.is.fits)) }
+    record {
+      value = c.square_root.ensures.value ∙ ap (λ (n : ℕ). square_root_of (n * 10 ^ 12)) c.from.ensures;
+      small = strength_le c.square_root.result c.args.strength c.requires (omega (arith, c.square_root.ensures.is.fits, c.from.ensures));
+    }

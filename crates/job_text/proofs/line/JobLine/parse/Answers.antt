@@ -5,7 +5,7 @@ use Rattle.job_text.proofs.line.JobLine.parse.Goals as goal
 
 value : (c : goal.After-called) → c.called.result ≡ job_line c.args.line.now
 unfolding job_line
-value c = c.called.ensures ∙ sym (ap said c.cut-word-cut.ensures.words)
+value c = c.called.ensures ∙ sym (ap said c.cut_word-cut.ensures.words)
 
 pub returns : goal.returns
 returns c =

@@ -28,7 +28,7 @@ returns c =
     let here : k < w.within.anchors = omega (arith, ap (λ o. o.anchors) c.opening.ensures, c.if-k-opening.false) in
     let v = valid_of w.within in
     let a = accurate (closed_case w) d v in
-    let e = at w.within.anchors c.forces-in-forces.result (force (closed_case w) d) k c.forces-in-forces.ensures here in
+    let e = at w.within.anchors c.forces_in-forces.result (force (closed_case w) d) k c.forces_in-forces.ensures here in
     record {
       value = ap Some e ∙ sym (cond-true _ _ _ (lt-ltb k w.within.anchors here));
       never_below = subst (NeverBelow (closed_case w) d k) (sym e) (a.never_below k here);

@@ -4,12 +4,12 @@ use Rattle.loadcase.proofs.Validity.{spread_pos}
 use Rattle.loadcase.proofs.Products.{moment_le}
 use Rattle.loadcase.proofs.open.OpenCase.share.Goals as goal
 
-pub part-up-requires : goal.part-up-requires
-part-up-requires c =
+pub part_up-requires : goal.part_up-requires
+part_up-requires c =
     record {
       loaded = omega (arith, c.load.ensures, c.requires.loaded);
       short = c.arm-arm.ensures.small;
-      some = omega (arith, spread_pos c.args.self.now c.args.bolt c.requires.inside, c.spread-at-sum.ensures.value);
+      some = omega (arith, spread_pos c.args.self.now c.args.bolt c.requires.inside, c.spread_at-sum.ensures.value);
     }
 
 same : (f f' a a' s s' : ℕ) → f ≡ f' → a ≡ a' → s ≡ s' → up (1000 * f * a) s ≡ up (1000 * f' * a') s'
@@ -18,6 +18,6 @@ same f f' a a' s s' e g h = cc
 pub returns : goal.returns
 returns c =
     record {
-      value = c.part-up.ensures.value ∙ same _ _ _ _ _ _ c.load.ensures c.arm-arm.ensures.value c.spread-at-sum.ensures.value;
-      small = omega (arith, c.part-up.ensures.small, moment_le (1000 * c.load.result) c.arm-arm.result (omega (arith, c.load.ensures, c.requires.loaded)) c.arm-arm.ensures.small);
+      value = c.part_up.ensures.value ∙ same _ _ _ _ _ _ c.load.ensures c.arm-arm.ensures.value c.spread_at-sum.ensures.value;
+      small = omega (arith, c.part_up.ensures.small, moment_le (1000 * c.load.result) c.arm-arm.result (omega (arith, c.load.ensures, c.requires.loaded)) c.arm-arm.ensures.small);
     }

@@ -17,12 +17,12 @@ on_site P bs xs n t is fits numbers holds = record {
 
 pub returns-in-Some : goal.returns-in-Some
 returns-in-Some c =
-    let held = c.in-ok-certificate.ensures.held in
-    let t = c.in-ok-site.ensures in
-    (held.1, on_site (λ bs t. IsPrepared bs t c.in-Some.prepared) c.args.bytes.now _ _ c.in-ok-site.site held.0 t.0 t.1 c.in-Some.ensures)
+    let held = c.in_ok-certificate.ensures.held in
+    let t = c.in_ok-site.ensures in
+    (held.1, on_site (λ bs t. IsPrepared bs t c.in-Some.prepared) c.args.bytes.now _ _ c.in_ok-site.site held.0 t.0 t.1 c.in-Some.ensures)
 
 pub returns-in-None : goal.returns-in-None
 returns-in-None c =
-    let held = c.in-ok-certificate.ensures.held in
-    let t = c.in-ok-site.ensures in
-    (held.1, on_site (λ bs t. Absent (list_in bs t.concrete) t.strength) c.args.bytes.now _ _ c.in-ok-site.site held.0 t.0 t.1 c.in-None.ensures)
+    let held = c.in_ok-certificate.ensures.held in
+    let t = c.in_ok-site.ensures in
+    (held.1, on_site (λ bs t. Absent (list_in bs t.concrete) t.strength) c.args.bytes.now _ _ c.in_ok-site.site held.0 t.0 t.1 c.in-None.ensures)

@@ -15,14 +15,14 @@ use Rattle.rating.proofs.prepared.preparing.prepared_on.Goals as goal
 opening_fits : (o : Opening) → 2 ≤ o.anchors → o.anchors ≤ 12 → 500 ≤ o.spacing → o.spacing ≤ 2500 → 4000 ≤ o.inertia → o.inertia ≤ 200000 → in_range o ≡ true
 opening_fits o a b c d e f = grind (arith, nat_tests)
 
-pub invariant-of-result : goal.invariant-of-result
-invariant-of-result c =
+pub invariant_of-result : goal.invariant_of-result
+invariant_of-result c =
     let t = c.args.site.now in
     let i = (c.geometry-geometry.ensures.lawful c.requires).inertia in
     (opening_fits (record { anchors = t.anchors; spacing = t.spacing; inertia = c.geometry-geometry.result.moment_of_inertia }) t.least_anchors t.most_anchors t.least_spacing t.most_spacing i.from i.to, tt)
 
-pub lines-of-sheet-requires : goal.lines-of-sheet-requires
-lines-of-sheet-requires c = record {
+pub lines_of-sheet-requires : goal.lines_of-sheet-requires
+lines_of-sheet-requires c = record {
   shape = c.geometry-geometry.ensures.lawful c.requires;
   strong = c.values-values.ensures.lawful c.requires;
   safe = c.factors-factors.ensures.lawful c.requires;
@@ -34,11 +34,11 @@ returns-in-Some c =
     let bs = c.args.certificate.now.bytes.now in
     let t = c.args.site.now in
     let f = c.in-Some.factor in
-    let s = c.lines-of-sheet.result in
+    let s = c.lines_of-sheet.result in
     let g = c.geometry-geometry.result in
     let v = c.values-values.result in
     let a = c.factors-factors.result in
-    let e0 = c.lines-of-sheet.ensures in
+    let e0 = c.lines_of-sheet.ensures in
     let e1 : IsSheet (edition_of bs) g v a f t s = subst (λ (x : Edition). IsSheet x g v a f t s) c.edition-edition.ensures e0 in
     let e2 : IsSheet (edition_of bs) (geometry_in bs) v a f t s = subst (λ (x : Geometry). IsSheet (edition_of bs) x v a f t s) c.geometry-geometry.ensures.value e1 in
     let e3 : IsSheet (edition_of bs) (geometry_in bs) (values_in bs) a f t s = subst (λ (x : CharacteristicValues). IsSheet (edition_of bs) (geometry_in bs) x a f t s) c.values-values.ensures.value e2 in

@@ -6,7 +6,7 @@ pub returns : goal.returns
 returns c =
     let x = c.args.self.now in
     record {
-      is = c.last-at-most.ensures.is;
-      value = c.last-at-most.ensures.value;
-      within = root_down_within x.a x.b (omega arith) (omega arith) _ c.last-at-most.ensures.is;
+      is = c.last_at_most.ensures.is;
+      value = c.last_at_most.ensures.value;
+      within = root_down_within x.a x.b (omega arith) (omega arith) _ c.last_at_most.ensures.is;
     }

@@ -3,8 +3,8 @@ use Rattle.std.proofs.lemmas.List.{take_all}
 use Rattle.std.proofs.lemmas.List.Sums.{sum_by_more}
 use Rattle.bolts.specs.Bolts.{bolt_at, no_bolt}
 use Rattle.bolts.specs.declared.bolt.Bolt.{Bolt}
-use Rattle.steel_modes.specs.Flexure.{part_up}
-use Rattle.steel_modes.proofs.Spans.{part_le}
+use Rattle.steel_modes.specs.Spans.{part_up}
+use Rattle.steel_modes.specs.SpanLemmas.{part_le}
 use Rattle.steel_modes.proofs.flexure.moment.moment_of.Goals as goal
 use Rattle.steel_modes.proofs.flexure.moment.moment_of.Goals.{After-part-sum}
 
@@ -14,8 +14,8 @@ one_le c =
     let le = part_le c.args.spacing c.requires.wide c.args.here b c.requires.narrow (c.requires.loaded c.loop-other.other-index c.loop-other-test.true) in
     omega (arith, c.part-sum.ensures)
 
-pub overflow-add-sum : goal.overflow-add-sum
-overflow-add-sum c = omega (arith, one_le c, c.loop-other.invariant.1, c.loop-other-test.true, c.requires.few)
+pub overflow_add-sum : goal.overflow_add-sum
+overflow_add-sum c = omega (arith, one_le c, c.loop-other.invariant.1, c.loop-other-test.true, c.requires.few)
 
 pub loop-other-preserved : goal.loop-other-preserved
 loop-other-preserved c =

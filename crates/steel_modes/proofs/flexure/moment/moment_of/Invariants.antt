@@ -1,5 +1,5 @@
 use Rattle.std.proofs.Common.{◌≡◌, ◌*◌, ◌≤◌, take, sum_by}
-use Rattle.steel_modes.specs.Flexure.{part_up}
+use Rattle.steel_modes.specs.Spans.{part_up}
 use Rattle.steel_modes.proofs.flexure.moment.moment_of.Given as goal
 
 abbrev pub invariant-loop-other : goal.invariant-loop-other
