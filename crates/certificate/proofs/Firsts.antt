@@ -1,7 +1,7 @@
 -- The first no of questions that come one list after the other.
 use Rattle.std.proofs.Common.{◌≡◌, ℕ, ◌+◌, ◌<◌, ◌≤◌, Bool, true, false, cond, List, [], ◌∷◌, ◌++◌, length, get_or, drop, Ok, Err, Result, sym, refl, ◌∙◌, arith}
 use Rattle.std.proofs.lemmas.List.{at_drop_more, at_drop_all}
-use Rattle.std.specs.List.{flat_map, AllByRecursion as All}
+use Rattle.std.specs.List.{flat_map, AllByRecursion}
 use Rattle.certificate.specs.Asked.{Asked, first_no}
 use Rattle.certificate.specs.declared.fault.CertificateFault.{CertificateFault}
 
@@ -34,9 +34,9 @@ yes_at true e x P ih h = (refl, ih h)
 yes_at false e x P ih h = refused_granted e h
 
 -- no refusal: each question is answered yes
-pub all_yes : (xs : Asked) → first_no xs ≡ Ok tt → All (λ q. q.0 ≡ true) xs
+pub all_yes : (xs : Asked) → first_no xs ≡ Ok tt → AllByRecursion (λ q. q.0 ≡ true) xs
 all_yes [] h = tt
-all_yes (q ∷ xs) h = yes_at q.0 q.1 (first_no xs) (All (λ r. r.0 ≡ true) xs) (all_yes xs) h
+all_yes (q ∷ xs) h = yes_at q.0 q.1 (first_no xs) (AllByRecursion (λ r. r.0 ≡ true) xs) (all_yes xs) h
 
 -- questions of each item of a list, in the list's order: `left` is what is still to ask
 module _ {X : Type 0} (f : X → Asked) (xs : List X) (i : ℕ) (d : X) (all : Answer) (left : first_no (flat_map f (drop i xs)) ≡ all) where

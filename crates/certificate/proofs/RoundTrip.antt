@@ -1,13 +1,14 @@
 -- What is written reads back as what was handed in.
-use Rattle.std.proofs.Common.{◌≡◌, ℕ, zero, suc, ◌+◌, ◌*◌, ◌/◌, ◌%◌, ◌<◌, ◌≤◌, List, [], ◌∷◌, ◌++◌, length, get_or, take, drop, sym, refl, ap, ◌∙◌, arith, length-append}
-use Rattle.std.specs.List.{range_with_len, flat_map, AllByRecursion as All}
+use Rattle.std.proofs.Common.{All, ◌≡◌, ℕ, zero, suc, ◌+◌, ◌*◌, ◌/◌, ◌%◌, ◌<◌, ◌≤◌, List, [], ◌∷◌, ◌++◌, length, get_or, take, drop, sym, refl, ap, ◌∙◌, arith}
+use Rattle.std.specs.List.{AllByRecursion}
 use Rattle.std.proofs.lemmas.Nat.{shr-shr, div_below}
+use Rattle.std.proofs.lemmas.List.Elements.{recursion_from_All}
 use Rattle.std.proofs.lemmas.List.FromFn.{length-map-range_with_len, get_or-map-range_with_len}
 use Rattle.std.proofs.lemmas.List.{ext_get_or, get_or-append-add, take_at, take_all, drop_at, drop-drop}
-use Rattle.certificate.specs.Bytes.{u16_at, u32_at, le16, le32}
-use Rattle.certificate.specs.Layout.{offset, size, section_of}
+use Rattle.certificate.specs.Bytes.{u16_at}
+use Rattle.certificate.specs.Layout.{offset, section_of}
 use Rattle.certificate.specs.Content.{Content, content_of, geometry_of, values_of, factors_of, entry_at, entries}
-use Rattle.certificate.specs.Writing.{written, entry_bytes, list_bytes, Fits16, Fits32, EntryFits, Fitting}
+use Rattle.certificate.specs.Writing.{written, entry_bytes, list_bytes, geometry_shorts, values_list, factors_list, Fits16, Fits32, EntryFits, Fitting}
 use Rattle.certificate.specs.declared.fields.Geometry.{Geometry}
 use Rattle.certificate.specs.declared.fields.CharacteristicValues.{CharacteristicValues}
 use Rattle.certificate.specs.declared.fields.PartialFactors.{PartialFactors}
@@ -32,19 +33,19 @@ long n h =
 geometry_back : (c : Content) → Fitting c → geometry_of (section_of (written c) section.Geometry) ≡ c.geometry
 unfolding written
 geometry_back c fit =
-    let (a, (b, (d, (e, (f, (g, (h, (i, (j, (k, z)))))))))) = fit.shorts in
+    let (a, (b, (d, (e, (f, (g, (h, (i, (j, (k, z)))))))))) = recursion_from_All Fits16 (geometry_shorts c.geometry) fit.shorts in
     simp (short _ a, short _ b, short _ d, short _ e, short _ f, short _ g, short _ h, short _ i, short _ j, short _ k, long _ fit.inertia) refl
 
 values_back : (c : Content) → Fitting c → values_of (section_of (written c) section.Resistance) ≡ c.values
 unfolding written
 values_back c fit =
-    let (a, (b, (d, (e, (f, (g, (h, (i, (j, (k, z)))))))))) = fit.values in
+    let (a, (b, (d, (e, (f, (g, (h, (i, (j, (k, z)))))))))) = recursion_from_All Fits32 (values_list c.values) fit.values in
     simp (long _ a, long _ b, long _ d, long _ e, long _ f, long _ g, long _ h, long _ i, long _ j, long _ k) refl
 
 factors_back : (c : Content) → Fitting c → factors_of (section_of (written c) section.Resistance) ≡ c.factors
 unfolding written
 factors_back c fit =
-    let (a, (b, (d, (e, (f, (g, (h, (i, (j, (k, z)))))))))) = fit.factors in
+    let (a, (b, (d, (e, (f, (g, (h, (i, (j, (k, z)))))))))) = recursion_from_All Fits16 (factors_list c.factors) fit.factors in
     simp (short _ a, short _ b, short _ d, short _ e, short _ f, short _ g, short _ h, short _ i, short _ j, short _ k) refl
 
 -- an entry further on lies four bytes further on
@@ -64,7 +65,7 @@ module _ (x : StrengthFactor) (rest : List ℕ) where
       let b = next_number (4 * suc k + 2) (4 * k + 2) (omega arith) in
       cc
 
-entry_back : (xs : List StrengthFactor) (k : ℕ) (d : StrengthFactor) → k < length xs → All EntryFits xs → entry_at (list_bytes xs) k ≡ get_or xs k d
+entry_back : (xs : List StrengthFactor) (k : ℕ) (d : StrengthFactor) → k < length xs → AllByRecursion EntryFits xs → entry_at (list_bytes xs) k ≡ get_or xs k d
 entry_back [] k d h all = absurd (omega arith)
 entry_back (x ∷ xs) zero d h (fit, all) = let a = short x.strength fit.0 in let b = short x.factor fit.1 in simp (a, b) refl
 entry_back (x ∷ xs) (suc k) d h (fit, all) = next_entry x (list_bytes xs) k ∙ entry_back xs k d (omega arith) all
@@ -80,7 +81,7 @@ entries_back xs all =
     let many : n ≡ length xs = omega (arith, length-list xs) in
     let f : ℕ → StrengthFactor = entry_at (list_bytes xs) in
     let long : length (entries (list_bytes xs)) ≡ length xs = length-map-range_with_len f 0 n ∙ many in
-    ext_get_or d (entries (list_bytes xs)) xs long (λ i h. let g : i < n = omega arith in let k : i < length xs = omega arith in get_or-map-range_with_len f 0 n i i d g (omega arith) ∙ entry_back xs i d k all)
+    ext_get_or d (entries (list_bytes xs)) xs long (λ i h. let g : i < n = omega arith in let k : i < length xs = omega arith in get_or-map-range_with_len f 0 n i i d g (omega arith) ∙ entry_back xs i d k (recursion_from_All EntryFits xs all))
 
 first_byte : (c : Content) → get_or (written c) 0 0 ≡ c.edition
 unfolding written

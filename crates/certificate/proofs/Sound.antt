@@ -1,12 +1,12 @@
 -- What the answered questions say of a certificate's numbers.
-use Rattle.std.proofs.Common.{◌≡◌, ℕ, zero, suc, ◌-◌, ◌/◌, ◌%◌, ◌<◌, ◌≤◌, Bool, true, false, ◌&&◌, ◌||◌, eqb, ltb, leb, ◌⊎◌, List, [], ◌∷◌, ◌++◌, length, get_or, Ok, sym, refl, ap, ◌∙◌, subst, inl, inr, ⊎_elim, lt_trans, arith, length-drop, length-take}
-use Rattle.std.specs.List.{range_with_len, flat_map, AllByRecursion as All}
+use Rattle.std.proofs.Common.{◌≡◌, ℕ, zero, suc, ◌-◌, ◌/◌, ◌%◌, ◌<◌, ◌≤◌, true, ◌&&◌, ◌||◌, eqb, ltb, leb, ◌⊎◌, List, [], ◌∷◌, ◌++◌, length, get_or, Ok, ap, ◌∙◌, subst, inl, inr, ⊎_elim, lt_trans, arith, length-drop, length-take}
+use Rattle.std.specs.List.{range_with_len, flat_map, AllByRecursion}
 use Rattle.std.proofs.lemmas.List.FromFn.{length-range_with_len, get_or-range_with_len}
 use Rattle.std.proofs.lemmas.Bool.Decides.{nat_tests}
 use Rattle.std.proofs.lemmas.Bool.{leb-true, eqb-true, and_parts, or_cases, cases_lt}
-use Rattle.certificate.specs.Asked.{Asked, first_no}
+use Rattle.certificate.specs.Asked.{Asked}
 use Rattle.certificate.specs.Layout.{section_of, header_asked, layout_asked, offset, size, section_end}
-use Rattle.certificate.specs.Rules.{allowed, two, four, four_or_zero, fields_asked, geometry_rules, resistance_rules, ratios_asked}
+use Rattle.certificate.specs.Rules.{allowed, two, four_or_zero, fields_asked, geometry_rules, resistance_rules, ratios_asked}
 use Rattle.certificate.specs.Reading.{refusal, numbers_asked, strengths_asked}
 use Rattle.certificate.specs.Strengths.{strength_at, factor_at, entry_asked, list_asked}
 use Rattle.certificate.specs.Lookup.{list_section}
@@ -19,7 +19,7 @@ use Rattle.certificate.specs.declared.lookup.Concrete.TheVariants as concrete
 use Rattle.certificate.proofs.Firsts.{all_yes}
 
 -- the questions of a list that begins with others
-back : (xs ys : Asked) → All (λ q. q.0 ≡ true) (xs ++ ys) → All (λ q. q.0 ≡ true) xs × All (λ q. q.0 ≡ true) ys
+back : (xs ys : Asked) → AllByRecursion (λ q. q.0 ≡ true) (xs ++ ys) → AllByRecursion (λ q. q.0 ≡ true) xs × AllByRecursion (λ q. q.0 ≡ true) ys
 back [] ys h = (tt, h)
 back (x ∷ xs) ys (h, t) = let p = back xs ys t in ((h, p.0), p.1)
 
@@ -37,21 +37,21 @@ between_or_zero least most n h =
     ]
 
 -- the questions on the layout were all answered yes
-layout : (bs : List ℕ) → refusal bs ≡ Ok tt → All (λ q. q.0 ≡ true) (layout_asked bs)
+layout : (bs : List ℕ) → refusal bs ≡ Ok tt → AllByRecursion (λ q. q.0 ≡ true) (layout_asked bs)
 unfolding refusal
 layout bs h =
     let all = all_yes (header_asked bs ++ (layout_asked bs ++ (numbers_asked bs ++ strengths_asked bs))) h in
     (back (layout_asked bs) (numbers_asked bs ++ strengths_asked bs) (back (header_asked bs) (layout_asked bs ++ (numbers_asked bs ++ strengths_asked bs)) all).1).0
 
 -- and those on the lists
-lists : (bs : List ℕ) → refusal bs ≡ Ok tt → All (λ q. q.0 ≡ true) (strengths_asked bs)
+lists : (bs : List ℕ) → refusal bs ≡ Ok tt → AllByRecursion (λ q. q.0 ≡ true) (strengths_asked bs)
 unfolding refusal
 lists bs h =
     let all = all_yes (header_asked bs ++ (layout_asked bs ++ (numbers_asked bs ++ strengths_asked bs))) h in
     (back (numbers_asked bs) (strengths_asked bs) (back (layout_asked bs) (numbers_asked bs ++ strengths_asked bs) (back (header_asked bs) (layout_asked bs ++ (numbers_asked bs ++ strengths_asked bs)) all).1).1).1
 
 -- the questions on the numbers were all answered yes
-numbers : (bs : List ℕ) → refusal bs ≡ Ok tt → All (λ q. q.0 ≡ true) (numbers_asked bs)
+numbers : (bs : List ℕ) → refusal bs ≡ Ok tt → AllByRecursion (λ q. q.0 ≡ true) (numbers_asked bs)
 unfolding refusal
 numbers bs h =
     let all = all_yes (header_asked bs ++ (layout_asked bs ++ (numbers_asked bs ++ strengths_asked bs))) h in
@@ -126,18 +126,18 @@ factors_in_range bs h =
     }
 
 -- the questions of one item among those of all
-each_joined : {X : Type 0} (f : X → Asked) (xs : List X) (k : ℕ) (d : X) → k < length xs → All (λ q. q.0 ≡ true) (flat_map f xs) → All (λ q. q.0 ≡ true) (f (get_or xs k d))
+each_joined : {X : Type 0} (f : X → Asked) (xs : List X) (k : ℕ) (d : X) → k < length xs → AllByRecursion (λ q. q.0 ≡ true) (flat_map f xs) → AllByRecursion (λ q. q.0 ≡ true) (f (get_or xs k d))
 each_joined f [] k d h all = absurd (omega arith)
 each_joined f (x ∷ xs) zero d h all = (back (f x) (flat_map f xs) all).0
 each_joined f (x ∷ xs) (suc k) d h all = each_joined f xs k d (omega arith) (back (f x) (flat_map f xs) all).1
 
 -- what the questions of a list say of its entries
-module _ (place : ℕ) (bs : List ℕ) (all : All (λ q. q.0 ≡ true) (list_asked place bs)) where
-  asked_at : (k : ℕ) → k < length bs / 4 → All (λ q. q.0 ≡ true) (entry_asked place bs k)
+module _ (place : ℕ) (bs : List ℕ) (all : AllByRecursion (λ q. q.0 ≡ true) (list_asked place bs)) where
+  asked_at : (k : ℕ) → k < length bs / 4 → AllByRecursion (λ q. q.0 ≡ true) (entry_asked place bs k)
   asked_at k h =
       let n : ℕ = length bs / 4 in
       let e : get_or (range_with_len 0 n) k 0 ≡ k = omega (arith, get_or-range_with_len 0 n k 0 h) in
-      subst (λ (j : ℕ). All (λ q. q.0 ≡ true) (entry_asked place bs j)) e (each_joined (entry_asked place bs) (range_with_len 0 n) k 0 (omega (arith, length-range_with_len 0 n)) all)
+      subst (λ (j : ℕ). AllByRecursion (λ q. q.0 ≡ true) (entry_asked place bs j)) e (each_joined (entry_asked place bs) (range_with_len 0 n) k 0 (omega (arith, length-range_with_len 0 n)) all)
 
   in_range : (least most n : ℕ) → (leb least n && leb n most) ≡ true → Between least most n
   in_range least most n h = let q = and_parts (leb least n) (leb n most) h in record { from = leb-true least n q.0; to = leb-true n most q.1 }
@@ -171,7 +171,7 @@ module _ (place : ℕ) (bs : List ℕ) (all : All (λ q. q.0 ≡ true) (list_ask
 length_section : (bs : List ℕ) (s : Section) → section_end bs s ≤ length bs → length (section_of bs s) ≡ size bs s
 length_section bs s h = simp (length-take, length-drop) (omega arith)
 
-list_at : (bs : List ℕ) (s : Section) → section_end bs s ≤ length bs → (leb 4 (size bs s) && leb (size bs s) 256 && eqb (size bs s % 4) 0) ≡ true → All (λ q. q.0 ≡ true) (list_asked (offset bs s) (section_of bs s)) → ListInRange (section_of bs s)
+list_at : (bs : List ℕ) (s : Section) → section_end bs s ≤ length bs → (leb 4 (size bs s) && leb (size bs s) 256 && eqb (size bs s % 4) 0) ≡ true → AllByRecursion (λ q. q.0 ≡ true) (list_asked (offset bs s) (section_of bs s)) → ListInRange (section_of bs s)
 list_at bs s within right all =
     let e = length_section bs s within in
     let p = and_parts (leb 4 (size bs s) && leb (size bs s) 256) (eqb (size bs s % 4) 0) right in

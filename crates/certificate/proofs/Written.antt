@@ -1,6 +1,6 @@
 -- How long a written certificate is, and what is asked of it.
-use Rattle.std.proofs.Common.{◌≡◌, ℕ, ◌+◌, ◌*◌, ◌<◌, ◌≤◌, cond, leb, List, [], ◌∷◌, ◌++◌, length, Ok, Err, refl, ◌∙◌, append_assoc, arith, length-append}
-use Rattle.std.proofs.lemmas.Bool.{cond-true, cond-false, and_right, lt-leb, le-leb}
+use Rattle.std.proofs.Common.{◌≡◌, ℕ, ◌+◌, ◌*◌, ◌<◌, cond, leb, List, [], ◌∷◌, ◌++◌, length, Ok, Err, ◌∙◌, append_assoc, arith, length-append}
+use Rattle.std.proofs.lemmas.Bool.{cond-false, and_right, lt-leb}
 use Rattle.certificate.specs.Asked.{fault}
 use Rattle.certificate.specs.Reading.{refusal, certificate_asked}
 use Rattle.certificate.specs.Content.{Content}

@@ -1,5 +1,5 @@
 -- Little-endian numbers of two and of four bytes.
---   u16-at bs i, u32-at bs i   the number that begins at byte i; what lies past the end counts 0
+--   u16_at bs i, u32_at bs i   the number that begins at byte i; what lies past the end counts 0
 --   le16 n, le32 n             the bytes of a number
 use Rattle.std.specs.Prelude.{ℕ, ◌+◌, ◌*◌, ◌/◌, ◌%◌, List, [], ◌∷◌, slice_index}
 

@@ -1,5 +1,5 @@
 -- What the bytes of a certificate say.
---   content-of bs    the numbers and lists in bs
+--   content_of bs    the numbers and lists in bs
 --   reading bs       the content, or the fault of the first question that fails
 use Rattle.std.specs.Prelude.{◌≡◌, ℕ, ◌/◌, cond, List, map, length, Ok, Err, Result, ◌==◌, slice_index}
 use Rattle.std.specs.List.{range_with_len}

@@ -1,8 +1,8 @@
 -- The head of the file: 18 bytes with the edition, the number of sections, and a pair of offset and length for each
 -- of the four sections.
---   pair-byte k       where the pair of section k begins
+--   pair_byte k       where the pair of section k begins
 --   offset, size      what the pair says
---   section-of bs k   the part of the file that the pair points to
+--   section_of bs k   the part of the file that the pair points to
 use Rattle.std.specs.Prelude.{ℕ, ◌+◌, ◌*◌, ◌%◌, Bool, ◌&&◌, ◌||◌, List, [], ◌∷◌, ◌++◌, length, take, drop, ◌==◌, nat_le, slice_index}
 use Rattle.certificate.specs.Bytes.{u16_at}
 use Rattle.certificate.specs.Asked.{Asked, fault}

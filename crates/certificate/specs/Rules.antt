@@ -1,5 +1,5 @@
 -- The numbers of the first two sections, in file order, each with its range.
---   value-at bs rule     the number that stands where the rule says
+--   value_at bs rule     the number that stands where the rule says
 --   allowed rule v       v is in the rule's range, or 0 where the rule allows it
 use Rattle.std.specs.Prelude.{ℕ, ◌+◌, ◌*◌, Bool, true, false, ◌&&◌, ◌||◌, List, [], ◌∷◌, ◌==◌, nat_le}
 use Rattle.std.specs.List.{flat_map}

@@ -1,6 +1,6 @@
 -- The bytes that are written, without gaps: the head, the two sections of numbers, and the two lists.
-use Rattle.std.specs.Prelude.{◌≡◌, ℕ, ◌+◌, ◌*◌, ◌^◌, ◌<◌, ◌≤◌, List, [], ◌∷◌, ◌++◌, length, drop, Ok, Err, Result, nat_le}
-use Rattle.std.specs.List.{flat_map, AllByRecursion as All}
+use Rattle.std.specs.Prelude.{All, ◌≡◌, ℕ, ◌+◌, ◌*◌, ◌^◌, ◌<◌, ◌≤◌, List, [], ◌∷◌, ◌++◌, length, drop, Ok, Err, Result, nat_le}
+use Rattle.std.specs.List.{flat_map}
 use Rattle.certificate.specs.Bytes.{le16, le32}
 use Rattle.certificate.specs.Asked.{Asked, first_no, fault}
 use Rattle.certificate.specs.Reading.{certificate_asked}

@@ -1,6 +1,6 @@
 // Writing a certificate into a lent buffer.
-ghost use Rattle.std.specs.Prelude.{◌≡◌, ◌+◌, ◌*◌, ◌<◌, ◌≤◌, ◌++◌, length, nat_lt};
-ghost use Rattle.std.specs.List.{flat_map, AllByRecursion as All};
+ghost use Rattle.std.specs.Prelude.{All, ◌≡◌, ◌+◌, ◌*◌, ◌<◌, ◌≤◌, ◌++◌, length, nat_lt};
+ghost use Rattle.std.specs.List.{flat_map};
 ghost use Rattle.certificate.specs.Bytes.{le16, le32};
 ghost use Rattle.certificate.specs.Drafts.{drafted};
 ghost use Rattle.certificate.specs.Writing.{content, head_bytes, geometry_bytes, geometry_shorts, resistance_bytes, values_list, factors_list, written, Fits16, Fits32, Wrote, Fitting};

@@ -23,7 +23,7 @@ fn digit(letter: u8) -> anyhow::Result<u8> {
 // The bytes of a line of the table.
 fn decoded(heap: Global, line: &[u8]) -> anyhow::Result<Vec<u8>> {
     let mut bytes = Vec::new(heap);
-    if line == b"-" {
+    if line == b"-".as_slice() {
         return Ok(bytes);
     }
     if line.len() % 2 != 0 {

@@ -1,6 +1,6 @@
 -- The numbers of a certificate that was read fit the text's fields.
 use Rattle.std.proofs.Common.{◌≡◌, ℕ, ◌+◌, ◌*◌, ◌/◌, ◌<◌, ◌≤◌, Bool, true, false, cond, ◌||◌, eqb, ◌⊎◌, List, [], ◌∷◌, map, length, get_or, Ok, Err, Result, sym, refl, ap, ◌∙◌, ⊎_elim, arith, lit<, lit≤}
-use Rattle.std.specs.List.{range_with_len, AllByRecursion as All}
+use Rattle.std.specs.List.{range_with_len, AllByRecursion}
 use Rattle.std.proofs.lemmas.Bool.{or_cases, eqb-true, ne_eqb, cond-true, cond-false}
 use Rattle.certificate.specs.Content.{content_of, edition_of, geometry_of, values_of, factors_of, entry_at, entries}
 use Rattle.certificate.specs.Layout.{section_of}
@@ -42,11 +42,11 @@ small_entry bs k b =
       factor = omega (arith, b (4 * k + 2), b (4 * k + 2 + 1));
     }
 
-small_each : (bs : List ℕ) (ks : List ℕ) → Bytes bs → All Small (map (entry_at bs) ks)
+small_each : (bs : List ℕ) (ks : List ℕ) → Bytes bs → AllByRecursion Small (map (entry_at bs) ks)
 small_each bs [] b = tt
 small_each bs (k ∷ ks) b = (small_entry bs k b, small_each bs ks b)
 
-pub small_entries : (bs : List ℕ) → Bytes bs → All Small (entries bs)
+pub small_entries : (bs : List ℕ) → Bytes bs → AllByRecursion Small (entries bs)
 small_entries bs b = small_each bs (range_with_len 0 (length bs / 4)) b
 
 yes_at : (t : Bool) (x : Result Unit CertificateFault) (e : CertificateFault) → cond t x (Err e) ≡ Ok tt → (t ≡ true) × (x ≡ Ok tt)

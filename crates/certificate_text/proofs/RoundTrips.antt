@@ -1,6 +1,6 @@
 -- What is printed parses back.
-use Rattle.std.proofs.Common.{◌≡◌, ℕ, suc, ◌+◌, ◌<◌, ◌≤◌, true, leb, List, [], ◌∷◌, ◌++◌, length, drop, Some, None, Ok, codes, decimal, Option, sym, refl, ap, ◌∙◌, arith}
-use Rattle.std.specs.List.{AllByRecursion as All}
+use Rattle.std.proofs.Common.{◌≡◌, ℕ, suc, ◌<◌, ◌≤◌, true, leb, List, [], ◌∷◌, ◌++◌, length, drop, Some, None, Ok, codes, decimal, Option, sym, refl, ap, ◌∙◌, arith}
+use Rattle.std.specs.List.{AllByRecursion}
 use Rattle.std.proofs.lemmas.List.{append_assoc, append-nil}
 use Rattle.std.proofs.lemmas.Bool.{le-leb, cond-true}
 use Rattle.certificate.specs.declared.fields.StrengthFactor.{StrengthFactor}
@@ -85,7 +85,7 @@ fields_back (f ∷ fs) (n ∷ ns) rest (p, l, h, g) =
     let e : lines (fields_text (f ∷ fs) (n ∷ ns) ++ rest) ≡ field_words f.name n ∷ lines (fields_text fs ns ++ rest) = ap lines (append_assoc (field_text f.name n) (fields_text fs ns) rest) ∙ field_lines f.name n (fields_text fs ns ++ rest) p h in
     (ap (front_fields (f ∷ fs)) e ∙ ap (λ (o : Option ℕ). understood_then o (front_fields fs (lines (fields_text fs ns ++ rest)))) (field_back f n p l h) ∙ ap (λ (ms : List ℕ). n ∷ ms) ih.0, ap (drop (suc (length fs))) e ∙ ih.1)
 
-pub entries_back : (name : List ℕ) (es : List StrengthFactor) (rest : List ℕ) → plain name ≡ true → All Small es → (front_entries name (lines (list_text name es ++ rest)) ≡ es ++ front_entries name (lines rest)) × (drop (length es) (lines (list_text name es ++ rest)) ≡ lines rest)
+pub entries_back : (name : List ℕ) (es : List StrengthFactor) (rest : List ℕ) → plain name ≡ true → AllByRecursion Small es → (front_entries name (lines (list_text name es ++ rest)) ≡ es ++ front_entries name (lines rest)) × (drop (length es) (lines (list_text name es ++ rest)) ≡ lines rest)
 entries_back name [] rest p g = (refl, refl)
 entries_back name (x ∷ es) rest p (s, g) =
     let ih = entries_back name es rest p g in
@@ -97,13 +97,13 @@ other_line : (x : StrengthFactor) → entry_line (codes "cracked") (entry_words 
 unfolding entry_line
 other_line x = ap (λ (ws : List (List ℕ)). two_numbers (after_name (codes "cracked") ws)) (word_ended (codes "uncracked") (decimal x.strength ++ (32 ∷ decimal x.factor)) (free_plain 32 (codes "uncracked") (omega arith) refl))
 
-pub other_list : (es : List StrengthFactor) → All Small es → front_entries (codes "cracked") (lines (list_text (codes "uncracked") es)) ≡ []
+pub other_list : (es : List StrengthFactor) → AllByRecursion Small es → front_entries (codes "cracked") (lines (list_text (codes "uncracked") es)) ≡ []
 other_list [] g = ap (front_entries (codes "cracked")) no_lines
 other_list (x ∷ es) (s, g) =
     ap (front_entries (codes "cracked")) (entry_lines (codes "uncracked") x (list_text (codes "uncracked") es) refl s) ∙ ap (λ (o : Option StrengthFactor). understood_then o (front_entries (codes "cracked") (lines (list_text (codes "uncracked") es)))) (other_line x)
 
 -- the text of a content whose numbers fit says that content
-pub text_back : (c : Content) → Good table (numbers_from c.edition c.geometry c.values c.factors) → All Small c.cracked → All Small c.uncracked → parsed (text_of c) ≡ Ok c
+pub text_back : (c : Content) → Good table (numbers_from c.edition c.geometry c.values c.factors) → AllByRecursion Small c.cracked → AllByRecursion Small c.uncracked → parsed (text_of c) ≡ Ok c
 unfolding text_of fields
 text_back c good gc gu =
     let ns : List ℕ = numbers_from c.edition c.geometry c.values c.factors in

@@ -2,7 +2,8 @@
 use Rattle.std.proofs.Common.{◌≡◌, ℕ, zero, suc, ◌+◌, ◌<◌, ◌≤◌, eqb, List, [], ◌∷◌, ◌++◌, length, get_or, take, drop, sym, refl, ap, ◌∙◌, inl, inr, suc-le-suc, add-one, arith}
 use Rattle.std.proofs.lemmas.List.{take_all, drop_all}
 use Rattle.std.proofs.lemmas.Bool.{eq-eqb, ne_eqb, cond-true, cond-false}
-use Rattle.text_pieces.specs.Pieces.{onto, pieces, lines, words, Without, FirstOf, CutAt}
+use Rattle.text_pieces.specs.Pieces.{onto, pieces, lines, words, FirstOf, CutAt}
+use Rattle.text_pieces.proofs.Frees.{Free, without}
 
 -- the same place, seen from the second byte on
 tail : (mark c k : ℕ) (cs : List ℕ) → FirstOf mark (c ∷ cs) (suc k) → FirstOf mark cs k
@@ -14,7 +15,7 @@ tail mark c k cs f =
     }
 
 -- the separator does not occur before its first place
-free_front : (mark : ℕ) (bs : List ℕ) (k : ℕ) → FirstOf mark bs k → Without mark (take k bs)
+free_front : (mark : ℕ) (bs : List ℕ) (k : ℕ) → FirstOf mark bs k → Free mark (take k bs)
 free_front mark [] zero f = tt
 free_front mark [] (suc k) f = tt
 free_front mark (c ∷ cs) zero f = tt
@@ -26,10 +27,10 @@ joins mark (c ∷ cs) zero f h = ap (λ (x : ℕ). x ∷ cs) (f.found h)
 joins mark (c ∷ cs) (suc k) f h = ap (λ (xs : List ℕ). c ∷ xs) (joins mark cs k (tail mark c k cs f) (omega arith))
 
 pub cut_there : (mark : ℕ) (bs : List ℕ) (k : ℕ) → FirstOf mark bs k → k < length bs → CutAt mark bs (take k bs) (drop (k + 1) bs)
-cut_there mark bs k f h = record { free = free_front mark bs k f; joined = inl (rw add-one (joins mark bs k f h)) }
+cut_there mark bs k f h = record { free = without mark (take k bs) (free_front mark bs k f); joined = inl (rw add-one (joins mark bs k f h)) }
 
 pub cut_nowhere : (mark : ℕ) (bs : List ℕ) (k : ℕ) → FirstOf mark bs k → length bs ≤ k → CutAt mark bs (take k bs) (drop k bs)
-cut_nowhere mark bs k f h = record { free = free_front mark bs k f; joined = inr (sym (take_all k bs h), drop_all k bs h) }
+cut_nowhere mark bs k f h = record { free = without mark (take k bs) (free_front mark bs k f); joined = inr (sym (take_all k bs h), drop_all k bs h) }
 
 -- up to the first separator, and on after it
 pub cut : (mark : ℕ) (end : List (List ℕ)) (bs : List ℕ) (k : ℕ) → FirstOf mark bs k → k < length bs → pieces mark end bs ≡ take k bs ∷ pieces mark end (drop (suc k) bs)

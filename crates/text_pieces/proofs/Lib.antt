@@ -1,3 +1,4 @@
+pub mod Frees
 pub mod Cuts
 pub mod WordRuns
 pub mod DigitRuns

@@ -1,9 +1,10 @@
 -- The words of a byte string: one, or two and more with a space between. A numeral has no space.
 use Rattle.std.proofs.Common.{◌≡◌, ℕ, zero, suc, ◌<◌, true, false, ◌&&◌, eqb, leb, ◌⊎◌, List, [], ◌∷◌, length, get_or, Some, None, sym, refl, ap, ◌∙◌, subst, inl, inr, ⊎_elim, suc-le-suc, arith}
-use Rattle.std.specs.List.{AllByRecursion as All}
+use Rattle.std.specs.List.{AllByRecursion}
 use Rattle.std.proofs.lemmas.Bool.{lt-leb, and_left, and_right, eqb-true, eqb-false, cond-true, cond-false, cases_Bool}
 use Rattle.text_pieces.specs.Numerals.{digits, numeral, read_on, number_in}
-use Rattle.text_pieces.specs.Pieces.{onto, pieces, words, Without, after_spaces, spaced, WordsOf}
+use Rattle.text_pieces.specs.Pieces.{onto, pieces, words, after_spaces, spaced, WordsOf}
+use Rattle.text_pieces.proofs.Frees.{Free, without_each}
 
 no_digits : (bs : List ℕ) (k : ℕ) → k < length bs → get_or bs k 0 ≡ 32 → digits bs ≡ false
 no_digits [] k h e = absurd (omega arith)
@@ -73,21 +74,21 @@ joined_at (c ∷ cs) =
     (λ (f : eqb c 32 ≡ false). ap spaced (cond-false (eqb c 32) _ _ f) ∙ spaced_onto c (pieces 32 ([] ∷ []) cs) p ps e ∙ ap (λ (xs : List ℕ). c ∷ xs) ih)
     (cases_Bool (eqb c 32))
 
-free_onto : (c : ℕ) (ws : List (List ℕ)) → (c ≡ 32 → ⊥) → All (Without 32) ws → All (Without 32) (onto c ws)
+free_onto : (c : ℕ) (ws : List (List ℕ)) → (c ≡ 32 → ⊥) → AllByRecursion (Free 32) ws → AllByRecursion (Free 32) (onto c ws)
 free_onto c [] n h = ((n, tt), tt)
 free_onto c (w ∷ ws) n (h, t) = ((n, h), t)
 
-free_pieces : (bs : List ℕ) → All (Without 32) (pieces 32 ([] ∷ []) bs)
+free_pieces : (bs : List ℕ) → AllByRecursion (Free 32) (pieces 32 ([] ∷ []) bs)
 free_pieces [] = (tt, tt)
 free_pieces (c ∷ cs) =
     let ps : List (List ℕ) = pieces 32 ([] ∷ []) cs in
     let ih = free_pieces cs in
     ⊎_elim
-    (λ (t : eqb c 32 ≡ true). subst (All (Without 32)) (sym (cond-true (eqb c 32) ([] ∷ ps) (onto c ps) t)) (tt, ih))
-    (λ (f : eqb c 32 ≡ false). subst (All (Without 32)) (sym (cond-false (eqb c 32) ([] ∷ ps) (onto c ps) f)) (free_onto c ps (eqb-false c 32 f) ih))
+    (λ (t : eqb c 32 ≡ true). subst (AllByRecursion (Free 32)) (sym (cond-true (eqb c 32) ([] ∷ ps) (onto c ps) t)) (tt, ih))
+    (λ (f : eqb c 32 ≡ false). subst (AllByRecursion (Free 32)) (sym (cond-false (eqb c 32) ([] ∷ ps) (onto c ps) f)) (free_onto c ps (eqb-false c 32 f) ih))
     (cases_Bool (eqb c 32))
 
 -- the words of a line, joined again
 pub words_of : (line : List ℕ) → WordsOf line (words line)
 unfolding words
-words_of line = record { free = free_pieces line; joined = joined_at line }
+words_of line = record { free = without_each 32 (pieces 32 ([] ∷ []) line) (free_pieces line); joined = joined_at line }

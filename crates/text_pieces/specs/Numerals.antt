@@ -1,6 +1,6 @@
 -- Decimal numbers of 1 to 9 digits.
 --   digits ds       all bytes are digits
---   read-on n ds    the number that digits write after n
+--   read_on n ds    the number that digits write after n
 --   numeral ds      1 to 9 bytes, all digits
 --   number_in ds    the value of a numeral; none where the bytes are none
 use Rattle.std.specs.Prelude.{ℕ, ◌+◌, ◌-◌, ◌*◌, Bool, true, cond, ◌&&◌, List, [], ◌∷◌, length, Some, None, Option, nat_le}

@@ -2,15 +2,14 @@
 --   pieces mark end bs         the pieces between the bytes mark; an empty end counts as end
 --   lines text                 each line ends with a line feed, which the last may lack
 --   words line                 the words of a line stand between single spaces
---   words-after rest           the words of what follows a word and its space; none where nothing follows
+--   words_after rest           the words of what follows a word and its space; none where nothing follows
 --   Without mark bs            no byte is the mark
 --   FirstOf wanted bs k        k is the first place of a byte, or the length where it does not occur
 --   CutAt mark bs front back   front ends at the first mark, and back follows it; all and nothing where there is none
---   after-spaces ws            each word after a space
+--   after_spaces ws            each word after a space
 --   spaced ws                  words with single spaces between
 --   WordsOf line ws            no word has a space, and with single spaces between they are the line
-use Rattle.std.specs.Prelude.{◌≡◌, ℕ, ◌<◌, ◌≤◌, cond, ◌⊎◌, List, [], ◌∷◌, ◌++◌, length, Some, None, Option, ◌==◌, ◌≢◌, slice_index}
-use Rattle.std.specs.List.{AllByRecursion as All}
+use Rattle.std.specs.Prelude.{All, ◌≡◌, ℕ, ◌<◌, ◌≤◌, cond, ◌⊎◌, List, [], ◌∷◌, ◌++◌, length, Some, None, Option, ◌==◌, ◌≢◌, slice_index}
 
 -- a byte in front of the first piece
 abbrev pub onto : ℕ → List (List ℕ) → List (List ℕ)

@@ -1,6 +1,6 @@
 // Filling a draft from its front.
-ghost use Rattle.std.specs.Prelude.{◌≡◌, ◌+◌, ◌*◌, ◌^◌, ◌<◌, ◌≤◌, [], ◌∷◌, ◌++◌, length};
-ghost use Rattle.std.specs.List.{flat_map, AllByRecursion as All};
+ghost use Rattle.std.specs.Prelude.{All, ◌≡◌, ◌+◌, ◌*◌, ◌^◌, ◌<◌, ◌≤◌, [], ◌∷◌, ◌++◌, length};
+ghost use Rattle.std.specs.List.{flat_map};
 ghost use Rattle.certificate.specs.Bytes.{le16, le32};
 ghost use Rattle.certificate.specs.Drafts.{drafted};
 ghost use Rattle.certificate.specs.Writing.{entry_bytes, Fits16, Fits32, EntryFits};

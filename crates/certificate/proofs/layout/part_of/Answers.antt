@@ -1,4 +1,4 @@
-use Rattle.std.proofs.Common.{sym, rules}
+use Rattle.std.proofs.Common.{rules}
 use Rattle.certificate.specs.Layout.{offset, size}
 use Rattle.certificate.proofs.Clips.{clip}
 use Rattle.certificate.proofs.layout.part_of.Goals as goal

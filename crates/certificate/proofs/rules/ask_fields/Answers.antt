@@ -1,6 +1,5 @@
-use Rattle.std.proofs.Common.{◌≡◌, get_or, sym, ap, ◌∙◌}
+use Rattle.std.proofs.Common.{get_or, sym, ap, ◌∙◌}
 use Rattle.std.proofs.lemmas.Bool.{cond-true, cond-false}
-use Rattle.certificate.specs.Asked.{Asked}
 use Rattle.certificate.specs.Rules.{field_asked, allowed, two}
 use Rattle.certificate.specs.declared.rules.FieldRule.{FieldRule}
 use Rattle.certificate.proofs.Firsts.{asked_more, asked_stop, asked_all}

@@ -1,4 +1,4 @@
-use Rattle.std.proofs.Common.{ℕ, List, [], ◌∷◌, ◌++◌, ap, ◌∙◌, append_assoc, rules}
+use Rattle.std.proofs.Common.{arith, ℕ, List, [], ◌∷◌, ◌++◌, ap, ◌∙◌, append_assoc, rules}
 use Rattle.std.specs.List.{flat_map}
 use Rattle.certificate.specs.Bytes.{le16, le32}
 use Rattle.certificate.specs.Drafts.{drafted}
@@ -13,5 +13,5 @@ returns c =
       after = c.put_longs.ensures.after ∙ ap (λ (ys : List ℕ). ys ++ inertia) c.put_shorts.ensures.after ∙ append_assoc (drafted c.args.draft.now) (flat_map le16 (geometry_shorts g)) inertia;
       count = search rules;
       shorts = c.put_shorts.ensures.fits;
-      inertia = c.put_longs.ensures.fits.0;
+      inertia = c.put_longs.ensures.fits 0 0 (omega arith);
     }

@@ -4,10 +4,10 @@ use Rattle.text_pieces.specs.Pieces.{words, words_after}
 use Rattle.certificate_text.specs.Lines.{two_numbers, both, bounded}
 use Rattle.certificate_text.proofs.WordRuns.{two_words}
 use Rattle.certificate_text.proofs.line.pair_in.Goals as goal
-use Rattle.certificate_text.proofs.line.pair_in.Goals.{In-ok-rest}
+use Rattle.certificate_text.proofs.line.pair_in.Goals.{In_ok-rest}
 
 -- the first word is a strength, the rest a factor
-pair : (c : In-ok-rest) → two_numbers (words c.args.bytes.now) ≡ both (bounded 65535 c.cut_word-cut.result.word.now) (bounded 65535 c.in_ok-rest.rest.now)
+pair : (c : In_ok-rest) → two_numbers (words c.args.bytes.now) ≡ both (bounded 65535 c.cut_word-cut.result.word.now) (bounded 65535 c.in_ok-rest.rest.now)
 pair c =
     let w : List ℕ = c.cut_word-cut.result.word.now in
     let e = c.cut_word-cut.ensures.words ∙ ap (λ (o : Option (Bor (List ℕ))). w ∷ words_after (option_map (λ x. x.now) o)) c.in_ok-rest.was in
@@ -15,7 +15,7 @@ pair c =
 
 pub returns-in_err-factor : goal.returns-in_err-factor
 returns-in_err-factor c =
-    let p = pair (goal.at.returns-in_err-factor c).In-ok-rest in
+    let p = pair (goal.at.returns-in_err-factor c).In_ok-rest in
     let e = sym c.bounded_in.ensures ∙ c.in_ok-strength.was in
     let f = sym c.bounded_in-2.ensures ∙ c.in_err-factor.was in
     let g : both (Some c.in_ok-strength.strength) None ≡ None = refl in
@@ -23,7 +23,7 @@ returns-in_err-factor c =
 
 pub returns : goal.returns
 returns c =
-    let p = pair (goal.at.returns c).In-ok-rest in
+    let p = pair (goal.at.returns c).In_ok-rest in
     let e = sym c.bounded_in.ensures ∙ c.in_ok-strength.was in
     let f = sym c.bounded_in-2.ensures ∙ c.in_ok-factor.was in
     let g : both (Some c.in_ok-strength.strength) (Some c.in_ok-factor.factor) ≡ Some (record { strength = c.in_ok-strength.strength; factor = c.in_ok-factor.factor }) = refl in

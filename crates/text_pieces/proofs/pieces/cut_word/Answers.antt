@@ -1,6 +1,5 @@
 use Rattle.std.proofs.Common.{◌≡◌, ℕ, ◌+◌, ◌-◌, ◌<◌, ◌≤◌, List, length, arith}
 use Rattle.std.proofs.lemmas.List.{take_rest, take_all}
-use Rattle.text_pieces.specs.Pieces.{words}
 use Rattle.text_pieces.proofs.Cuts.{first_word, last_word}
 use Rattle.text_pieces.proofs.WordRuns.{words_of}
 use Rattle.text_pieces.proofs.pieces.cut_word.Goals as goal

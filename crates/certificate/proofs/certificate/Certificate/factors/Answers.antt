@@ -1,4 +1,4 @@
-use Rattle.std.proofs.Common.{◌≡◌, sym, ap, ◌∙◌, subst}
+use Rattle.std.proofs.Common.{sym, ap, ◌∙◌, subst}
 use Rattle.certificate.specs.Content.{factors_of}
 use Rattle.certificate.specs.Ranges.{FactorsInRange}
 use Rattle.certificate.proofs.Sound.{factors_in_range}

@@ -1,4 +1,4 @@
-use Rattle.std.proofs.Common.{◌≡◌, sym, ap, ◌∙◌, subst}
+use Rattle.std.proofs.Common.{sym, ap, ◌∙◌, subst}
 use Rattle.certificate.specs.Content.{geometry_of}
 use Rattle.certificate.specs.Ranges.{GeometryInRange}
 use Rattle.certificate.proofs.Sound.{geometry_in_range}

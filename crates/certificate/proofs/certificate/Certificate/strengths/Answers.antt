@@ -1,4 +1,4 @@
-use Rattle.std.proofs.Common.{◌≡◌, sym, ap, ◌∙◌, subst}
+use Rattle.std.proofs.Common.{sym, ap, ◌∙◌, subst}
 use Rattle.certificate.specs.Layout.{offset, section_of}
 use Rattle.certificate.specs.Ranges.{ListInRange}
 use Rattle.certificate.proofs.Sound.{list_in_range}

@@ -1,4 +1,4 @@
-use Rattle.std.proofs.Common.{◌≡◌, sym, ap, ◌∙◌, subst}
+use Rattle.std.proofs.Common.{sym, ap, ◌∙◌, subst}
 use Rattle.certificate.specs.Content.{values_of}
 use Rattle.certificate.specs.Ranges.{ValuesInRange}
 use Rattle.certificate.proofs.Sound.{values_in_range}

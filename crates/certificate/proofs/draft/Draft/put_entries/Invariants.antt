@@ -1,8 +1,7 @@
-use Rattle.std.proofs.Common.{◌≡◌, ◌+◌, ◌*◌, ◌++◌, take}
-use Rattle.std.specs.List.{flat_map, AllByRecursion as All}
-use Rattle.certificate.specs.Bytes.{le16, le32}
+use Rattle.std.proofs.Common.{All, ◌≡◌, ◌+◌, ◌*◌, ◌++◌, take}
+use Rattle.std.specs.List.{flat_map}
 use Rattle.certificate.specs.Drafts.{drafted}
-use Rattle.certificate.specs.Writing.{entry_bytes, Fits16, Fits32, EntryFits}
+use Rattle.certificate.specs.Writing.{entry_bytes, EntryFits}
 use Rattle.certificate.proofs.draft.Draft.put_entries.Given as goal
 
 abbrev pub invariant-loop-entry : goal.invariant-loop-entry
