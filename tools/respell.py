@@ -80,6 +80,12 @@ def outside(text, comment):
             yield True, line
 
 
+def headed(line, table):
+    """A line of a file's list of words: the words stand left of a wide gap."""
+    m = re.match(r"(--   \S(?:.(?!   ))*.)(.*)", line, re.S)
+    return turned(m.group(1), table) + m.group(2) if m else line
+
+
 def quoted(text, table):
     return re.sub(r"`[^`\n]*`", lambda m: turned(m.group(0), table), text)
 
@@ -101,7 +107,7 @@ def main(argv):
             new = turned(text, table)
         else:
             mark = "--" if path.endswith(".antt") else "//"
-            new = "".join(turned(part, table) if code else quoted(part, table) for code, part in outside(text, mark))
+            new = "".join(turned(part, table) if code else headed(quoted(part, table), table) for code, part in outside(text, mark))
         if new != text:
             with open(path, "w", encoding="utf-8") as f:
                 f.write(new)

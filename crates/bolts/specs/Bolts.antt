@@ -1,5 +1,5 @@
 -- Lists of bolts. Positions are in tenths from the first anchor.
---   bolt-at xs k, position_at xs k   the k-th bolt, from 0, and where it lies
+--   bolt_at xs k, position_at xs k   the k-th bolt, from 0, and where it lies
 --   Spaced xs                        neighbours lie 300 tenths or more apart, in rising position
 --   Sound reach xs                   each bolt lies at most at reach, with its loads in range
 --   apart p q, clear p xs            two positions, or one and every bolt, are 300 tenths or more apart

@@ -1,7 +1,7 @@
 -- The loads of bolts, in N.
 --   load_of direction b         the load of a bolt in a direction
 --   loaded b                    both loads are in range, and not both 0
---   total-load direction xs     the sum of the loads in a direction
+--   total_load direction xs     the sum of the loads in a direction
 use Rattle.std.specs.Prelude.{ℕ, Bool, not, ◌&&◌, List, sum_by, ◌==◌, nat_le}
 use Rattle.bolts.specs.declared.bolt.Bolt.{Bolt}
 use Rattle.bolts.specs.declared.bolt.Direction.{Direction}

@@ -1,5 +1,5 @@
 -- What is asked before a bolt is placed or lifted, and what holds after.
---   asked-of-place, asked-of-lift   the questions in order
+--   asked_of_place, asked_of_lift   the questions in order
 --   Joined b old new                the new bolts are exactly the old ones and b
 --   Parted p old new                the new bolts are exactly the old ones but that at p
 --   Found xs p answer               the place of the bolt at p, or none

@@ -1,7 +1,7 @@
 -- The concrete edge in shear: factor k in tenths, strength f in N/mm², edge distance c in tenths, factor p and partial
 -- factor γ in hundredths. Values in mN.
---   edge-second k f c      by the second edition: k·√f·c^(4/3)
---   edge-first k f c       by the first edition: k·√f·c^(3/2)
+--   edge_second k f c      by the second edition: k·√f·c^(4/3)
+--   edge_first k f c       by the first edition: k·√f·c^(3/2)
 --   edge-resistance x p γ  the value times p over the partial factor, down
 use Rattle.std.specs.Prelude.{ℕ, ◌*◌, ◌/◌, ◌^◌}
 use Rattle.std.proofs.Common.{lit<}

@@ -1,8 +1,8 @@
 -- The concrete cone as a failure mode, in tension, and the pry-out, in shear.
---   cone-well k f h m             the factor 30 to 130 tenths, the strength 12 to 75 N/mm², the depth 400 to 2,500 tenths,
+--   cone_well k f h m             the factor 30 to 130 tenths, the strength 12 to 75 N/mm², the depth 400 to 2,500 tenths,
 --                                 the multiple 10 to 20 tenths
 --   LowBasic, HighBasic           the readings of the exact resistance: 100 over γ times an end of the root
---   cone-meaning d S b f c        the cone about each anchor, S its characteristic spacing
+--   cone_meaning d S b f c        the cone about each anchor, S its characteristic spacing
 use Rattle.std.specs.Prelude.{ℕ, Bool, ◌&&◌, nat_le}
 use Rattle.bolts.specs.declared.bolt.Direction.{Direction}
 use Rattle.forces.specs.Cases.{Case}

@@ -1,9 +1,9 @@
 -- The concrete edge in shear as a failure mode, by both editions. The allowance is 10 millionths.
---   edge-well k f c b p           the factor 10 to 110 tenths, the strength 12 to 75 N/mm², the edge distance 250 to 5,000
+--   edge_well k f c b p           the factor 10 to 110 tenths, the strength 12 to 75 N/mm², the edge distance 250 to 5,000
 --                                 tenths, the channel width 150 to 800 tenths, the factor p 100 to 140 hundredths
---   edge-spacing c b              the characteristic spacing in µm
+--   edge_spacing c b              the characteristic spacing in µm
 --   Scaled y R                    the readings R, each times y
---   edge-meaning S x p f lo hi c  the edge about each anchor: x, with the readings lo and hi, times p over f
+--   edge_meaning S x p f lo hi c  the edge about each anchor: x, with the readings lo and hi, times p over f
 --   LowSecond, HighSecond         the readings of k·√f·c^(4/3)
 --   LowFirst, HighFirst           the readings of the root of N
 use Rattle.std.specs.Prelude.{ℕ, ◌+◌, ◌*◌, Bool, ◌&&◌, nat_le}

@@ -1,6 +1,6 @@
 -- The meanings of the types of reductions, where `means` is that of the mode below.
---   straight-of means s c, root-of means s c, corner-of means s c   the mode below under the reduction
---   maybe-of means s c                                              the mode with or without a straight reduction
+--   straight_of means s c, root_of means s c, corner_of means s c   the mode below under the reduction
+--   maybe_of means s c                                              the mode with or without a straight reduction
 use Rattle.fractions.specs.Fractions.{over}
 use Rattle.forces.specs.Cases.{Case}
 use Rattle.failure.specs.Meanings.{Meaning}

@@ -1,8 +1,8 @@
 -- The nearer corner of the concrete, in µm. The corners lie `first` before the first anchor and `last` after the last.
---   position-of c kind i                  where the place i lies, from the first anchor
+--   position_of c kind i                  where the place i lies, from the first anchor
 --   nearer first last end position        the smaller way from a position to a corner, with the last anchor at end
---   corner-distance c kind first last i   how far the nearer corner lies from the place i
---   corner-meaning first last b p c m     the mode m under a root reduction by that distance over b
+--   corner_distance c kind first last i   how far the nearer corner lies from the place i
+--   corner_meaning first last b p c m     the mode m under a root reduction by that distance over b
 use Rattle.std.specs.Prelude.{ℕ, ◌+◌, ◌*◌, ◌<◌, min}
 use Rattle.fractions.specs.Fractions.{over}
 use Rattle.bolts.specs.Bolts.{position_at}

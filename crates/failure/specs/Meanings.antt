@@ -4,7 +4,7 @@
 --   Exactly x               the readings of a number that is the fraction x: just those that are the same number
 --   Meaning                 the places, numbers and readings of a mode for one case
 --   at_place n f i          the number at the place i of n; none past the last
---   effect-at, resistance-at   the effect, or the resistance, of a mode at a place; none past the last
+--   effect_at, resistance_at   the effect, or the resistance, of a mode at a place; none past the last
 --   excess w, shortfall a q how far an effect may lie above its reading, and a resistance below its reading q
 --   LawfulAt w m i          the numbers at the place i are safe and close, with w the whole load in N
 --   Lawful c m              so they are at every place

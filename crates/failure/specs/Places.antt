@@ -1,5 +1,5 @@
 -- The places of a mode in a case.
---   on-bolts c, on-anchors c   all bolts; all anchors
+--   on_bolts c, on_anchors c   all bolts; all anchors
 --   nowhere                    none: the mode does not apply
 use Rattle.std.specs.Prelude.{length}
 use Rattle.forces.specs.Cases.{Case}

@@ -1,15 +1,15 @@
 -- Reductions of a resistance by the ratio x of an actual distance A to a characteristic distance B, both in µm:
 -- where A is less, the resistance is multiplied, and rounded down; elsewhere it stays.
---   actual-fits a                 25,000 to 10,000,000 µm
---   characteristic-fits b         25,000 to 2,500,000 µm
---   in-range a b                  both
+--   actual_fits a                 25,000 to 10,000,000 µm
+--   characteristic_fits b         25,000 to 2,500,000 µm
+--   in_range a b                  both
 --   raised a                      the allowance with one reduction more, at most 2,000
---   straight-reduced a b r        r times A/B;   root-reduced a b r: r times the root of A/B, in millionths down
+--   straight_reduced a b r        r times A/B;   root-reduced a b r: r times the root of A/B, in millionths down
 --   LowRoot x, HighRoot x         the low and the high ends of brackets of the square root of x
 --   Times F R                     the readings R, each times each of F
 --   reduced n L H x m             the mode m with its resistance reduced: the number is n a b r, and its readings are
 --                                 those below times the factors L x and H x, at each place whose ratio x is below 1
---   straight-meaning x m, root-meaning x m   the mode m under the reduction by the ratios x, by place
+--   straight_meaning x m, root_meaning x m   the mode m under the reduction by the ratios x, by place
 use Rattle.std.specs.Prelude.{ℕ, ◌+◌, ◌*◌, ◌/◌, min, Bool, cond, ◌&&◌, nat_le, nat_lt}
 use Rattle.fractions.specs.Fractions.{Fraction, times, PowerAtMost, PowerAtLeast}
 use Rattle.roots.specs.Roots.{root_down_of}

@@ -2,8 +2,8 @@
 -- loads in N, forces in mN.
 --   reach o                  where the last anchor lies
 --   Valid c                  every number in range, at most 16 bolts, 300 tenths or more apart
---   force-by L c d k         the force on the k-th anchor, from 0, with the influence length L
---   forces-by L c d          the forces on all anchors
+--   force_by L c d k         the force on the k-th anchor, from 0, with the influence length L
+--   forces_by L c d          the forces on all anchors
 use Rattle.std.specs.Prelude.{ℕ, ◌-◌, ◌*◌, ◌≤◌, List, map, length, sum_by}
 use Rattle.std.specs.List.{range_with_len, AllByRecursion}
 use Rattle.fractions.specs.Fractions.{Fraction, total}

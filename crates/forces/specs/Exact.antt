@@ -1,5 +1,5 @@
 -- The forces of a case, and what they are held to.
---   length-of o              the influence length in µm
+--   length_of o              the influence length in µm
 --   force c d k              the force in mN on the k-th anchor, from 0, in a direction
 --   forces c d               the forces on all anchors
 --   NeverBelow c d k v       v is at least every low reading of the exact force

@@ -1,5 +1,5 @@
 -- The exact share of a load, read with one end of the influence length above the line and one in the sum.
---   spread-of x ds          the sum of x - d over the distances below x, over the lower number of x
+--   spread_of x ds          the sum of x - d over the distances below x, over the lower number of x
 --   quotient n d            n over d (over 1 where d is 0, which no reading that counts has)
 --   reading F x y d ds      F·(x - d) over the sum of y - d
 --   Beyond x ds             x lies beyond the nearest anchor

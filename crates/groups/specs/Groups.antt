@@ -1,9 +1,9 @@
 -- The effect on an anchor of a group, in mN.
 --   apart o k j              how far two anchors lie apart, in µm
 --   part S c d k j           what the j-th anchor gives the k-th: its force, or the weighted force of a neighbour, up
---   group-effect S c d k     the sum over all anchors
+--   group_effect S c d k     the sum over all anchors
 --   Choice S c k             ends of the influence length, and of the root in each neighbour's weight
---   low-effect, high-effect  the exact effect at a choice of lower, or upper, ends
+--   low_effect, high_effect  the exact effect at a choice of lower, or upper, ends
 use Rattle.std.specs.Prelude.{ℕ, ◌+◌, ◌*◌, ◌<◌, Bool, true, false, cond, map, sum_by, ◌==◌}
 use Rattle.std.specs.List.{range_with_len}
 use Rattle.fractions.specs.Fractions.{Fraction, AtMost, whole, plus, times, total}

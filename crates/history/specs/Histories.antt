@@ -2,12 +2,12 @@
 -- The lines of a sheet are given by their meanings for each case.
 --   Standing                 a case, and whether it is closed
 --   start o                  a case just opened: no bolts, not closed
---   or-refused f r           the answer f of what was granted, or the refusal
---   answer-open c k          what the call k is answered on the open case c
---   answer-closed lines c k  what it is answered on the closed case c
---   answer-of lines st k     what it is answered on the case as it stands
+--   or_refused f r           the answer f of what was granted, or the refusal
+--   answer_open c k          what the call k is answered on the open case c
+--   answer_closed lines c k  what it is answered on the closed case c
+--   answer_of lines st k     what it is answered on the case as it stands
 --   done a                   the answer says that the call was done
---   with-bolts st xs         the same case with other bolts
+--   with_bolts st xs         the same case with other bolts
 --   changed k st             how the case stands after a call that was done
 --   after st k a             how it stands after a call that was answered a: only what was done changes it
 --   history lines st ks      the answers to the calls ks, one after the other

@@ -9,7 +9,7 @@
 --   Answered lines o h          every turn is answered as a case is that stands so
 --   Follows lines o ks gs       the law: each call has an answer, and every turn is answered so
 --   fits x k, builds x ks       the call builds, or the calls in this order do, on a closed case, with x false on an open one
---   then-closed x k             whether the case is closed after a call that fits
+--   then_closed x k             whether the case is closed after a call that fits
 use Rattle.std.specs.Prelude.{◌≡◌, ℕ, Bool, true, false, not, ◌&&◌, List, [], ◌∷◌, ◌++◌, length, ◌≢◌}
 use Rattle.std.specs.List.{AllByRecursion}
 use Rattle.bolts.specs.Bolts.{Spaced, Among}

@@ -2,7 +2,7 @@
 -- through fractions that enclose the two roots.
 --   millimetres s                a spacing given in tenths
 --   Ends i s                     a lower and an upper end of each root
---   low-length, high-length      the length in micrometres at the lower ends, at the upper ends
+--   low_length, high_length      the length in micrometres at the lower ends, at the upper ends
 --   NotAbove i s l               l is at most the length at any upper ends
 --   NotBelow i s l               l is at least the length at any lower ends
 use Rattle.std.specs.Prelude.{ℕ}

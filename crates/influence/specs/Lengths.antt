@@ -1,10 +1,10 @@
 -- The influence length in micrometres, of a moment of inertia i in mm^4 and a spacing s in tenths of a millimetre.
 --   InRange i s             the numbers that channels have
---   half-root-of i          the square root of i, in millionths
---   quarter-root-of i       the square root of that, in millionths
---   twentieth-root-of i     the fifth root of that, in hundred-thousandths
---   spacing-root-of s       the square root of s tenths, in hundred-thousandths
---   influence-length i s    13,000 times the product of the last two
+--   half_root_of i          the square root of i, in millionths
+--   quarter_root_of i       the square root of that, in millionths
+--   twentieth_root_of i     the fifth root of that, in hundred-thousandths
+--   spacing_root_of s       the square root of s tenths, in hundred-thousandths
+--   influence_length i s    13,000 times the product of the last two
 --   Steps i s a b c q l     each letter is the greatest number that fits
 use Rattle.std.specs.Prelude.{◌≡◌, ℕ, ◌*◌, ◌/◌, ◌^◌, ◌≤◌}
 use Rattle.roots.specs.Extremes.{Greatest}

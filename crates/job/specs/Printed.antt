@@ -1,7 +1,7 @@
 -- The printed form of an outcome: a word and numbers, with single spaces between, and a line feed.
---   verdict-text v     `accepted` or `rejected`, the largest utilisation, its line and place, the first failed check or 0
---   refusal-text r     `refused`, the number of the question, and the byte or the line
---   outcome-text o     one or the other
+--   verdict_text v     `accepted` or `rejected`, the largest utilisation, its line and place, the first failed check or 0
+--   refusal_text r     `refused`, the number of the question, and the byte or the line
+--   outcome_text o     one or the other
 use Rattle.std.specs.Prelude.{ℕ, Bool, cond, List, [], ◌∷◌, ◌++◌, codes, decimal}
 use Rattle.verdict.specs.declared.answer.Verdict.{Verdict}
 use Rattle.job.specs.Refusals.{number, place}

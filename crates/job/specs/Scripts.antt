@@ -1,5 +1,5 @@
 -- The calls that the lines of a job make, after the site.
---   calls-of line     those of one line: none for a line that is refused; a rating closes, rates and reopens
+--   calls_of line     those of one line: none for a line that is refused; a rating closes, rates and reopens
 --   script lines      those of all lines
 use Rattle.std.specs.Prelude.{true, List, [], ◌∷◌, ◌++◌, Some, None, Option}
 use Rattle.history.specs.declared.call.Call.{Call}

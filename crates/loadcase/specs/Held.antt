@@ -1,7 +1,7 @@
 -- What a case of the code is, as a reader sees it.
 --   opening_of c     the numbers that it was opened with
---   bolts-of c       its bolts, in rising position
---   case-of c        both
+--   bolts_of c       its bolts, in rising position
+--   case_of c        both
 use Rattle.std.specs.Prelude.{List}
 use Rattle.bolts.specs.Tables.{held}
 use Rattle.bolts.specs.declared.bolt.Bolt.{Bolt}

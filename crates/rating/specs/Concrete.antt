@@ -4,7 +4,7 @@
 --   IsEdge e k f c b p γ m               the edge by the edition e
 --   IsRoot a b P r, IsStraight a b P r   a reduction of a over b in µm, over a mode with P
 --   IsCorner first last b P r            a corner reduction
---   is-dense dense h                     reinforcement is dense, and the embedment depth h is below 100 mm
+--   is_dense dense h                     reinforcement is dense, and the embedment depth h is below 100 mm
 --   IsDense dense h P m                  then the straight reduction of 100·(1,000 + h) over 200,000, else none
 --   IsConeLine P h t m                   a cone with P at the depth h, under all of its reductions on the site t
 --   IsEdgeLine P w h t m                 an edge with P, under all of its reductions
@@ -16,7 +16,7 @@ use Rattle.failure.specs.declared.straight.StraightReduction.{StraightReduction}
 use Rattle.failure.specs.declared.corner.CornerReduction.{CornerReduction}
 use Rattle.failure.specs.declared.maybe.MaybeReduced.{MaybeReduced}
 use Rattle.failure.specs.declared.maybe.MaybeReduced.TheVariants.{Plain, Reduced}
-use Rattle.concrete_modes.specs.Cone.{cone_edge}
+use Rattle.concrete.specs.Cone.{cone_edge}
 use Rattle.concrete_modes.specs.declared.cone.Cone.{Cone}
 use Rattle.concrete_modes.specs.declared.edge.EdgeBasis.{EdgeBasis}
 use Rattle.concrete_modes.specs.declared.edge.first.FirstEdge.{FirstEdge}

@@ -1,5 +1,5 @@
 -- A mode by the rules of either edition.
---   edition-of first second m c     the meaning of m for the case c, where first and second are those of its two rules
+--   edition_of first second m c     the meaning of m for the case c, where first and second are those of its two rules
 use Rattle.forces.specs.Cases.{Case}
 use Rattle.failure.specs.Meanings.{Meaning}
 use Rattle.rating.specs.declared.edition.ByEdition.{ByEdition}

@@ -1,6 +1,6 @@
 -- The lines of a channel: edition e, geometry g, values v and partial factors f of its certificate, the strength factor ψ
 -- of the site's concrete, and the site t.
---   cone-factor g s, edge-factor g s     the factor k for cracked or uncracked concrete
+--   cone_factor g s, edge_factor g s     the factor k for cracked or uncracked concrete
 --   ChannelSheet                         a sheet of the thirteen modes
 --   IsSheet e g v f ψ t s                each line of the sheet s holds the numbers that its rule names
 use Rattle.std.specs.Prelude.{◌≡◌, ℕ}

@@ -1,22 +1,22 @@
 -- What the lines of a channel's sheet mean.
---   cone-of m c, edge-of m c        the meaning of a cone, and of an edge by either edition
---   cone-line-of, edge-line-of      with all of their reductions
---   channel-lines s c               the meanings of the thirteen lines for the case c
+--   cone_of m c, edge-of m c        the meaning of a cone, and of an edge by either edition
+--   cone_line_of, edge_line_of      with all of their reductions
+--   channel_lines s c               the meanings of the thirteen lines for the case c
 use Rattle.std.specs.Prelude.{List, [], ◌∷◌}
 use Rattle.forces.specs.Cases.{Case}
 use Rattle.failure.specs.Meanings.{Meaning}
 use Rattle.failure.specs.Combined.{root_of, corner_of, maybe_of}
-use Rattle.steel_modes.specs.AnchorSteel.{anchor_steel_meaning}
-use Rattle.steel_modes.specs.BoltSteel.{bolt_steel_meaning}
-use Rattle.steel_modes.specs.Lip.{lip_meaning}
-use Rattle.steel_modes.specs.Flexure.{flexure_meaning}
-use Rattle.steel_modes.specs.PullOut.{pull_out_meaning}
+use Rattle.steel_modes.specs.Anchored.{anchor_steel_meaning}
+use Rattle.steel_modes.specs.Bolted.{bolt_steel_meaning}
+use Rattle.steel_modes.specs.Lips.{lip_meaning}
+use Rattle.steel_modes.specs.Flexed.{flexure_meaning}
+use Rattle.steel_modes.specs.Anchored.{pull_out_meaning}
 use Rattle.steel_modes.specs.declared.anchor.AnchorSteel.{AnchorSteel}
 use Rattle.steel_modes.specs.declared.bolt.BoltSteel.{BoltSteel}
 use Rattle.steel_modes.specs.declared.lip.Lip.{Lip}
-use Rattle.concrete_modes.specs.Cone.{cone_meaning}
-use Rattle.concrete_modes.specs.EdgeFirst.{first_meaning}
-use Rattle.concrete_modes.specs.EdgeSecond.{second_meaning}
+use Rattle.concrete_modes.specs.Cones.{cone_meaning}
+use Rattle.concrete_modes.specs.Edges.{first_meaning}
+use Rattle.concrete_modes.specs.Edges.{second_meaning}
 use Rattle.concrete_modes.specs.declared.cone.Cone.{Cone}
 use Rattle.concrete_modes.specs.declared.edge.first.FirstEdge.{FirstEdge}
 use Rattle.concrete_modes.specs.declared.edge.second.SecondEdge.{SecondEdge}
@@ -35,17 +35,17 @@ lip_of m c = lip_meaning m.direction m.value m.factor m.spacing c
 abbrev pub cone_of : Cone → Case → Meaning
 cone_of m c = cone_meaning m.direction m.spacing m.basis m.factor c
 
-abbrev pub first_of : FirstEdge → Case → Meaning
-first_of m c = first_meaning m.spacing m.basis m.factor c
+abbrev pub first_edge_of : FirstEdge → Case → Meaning
+first_edge_of m c = first_meaning m.spacing m.basis m.factor c
 
-abbrev pub second_of : SecondEdge → Case → Meaning
-second_of m c = second_meaning m.spacing m.basis m.factor c
+abbrev pub second_edge_of : SecondEdge → Case → Meaning
+second_edge_of m c = second_meaning m.spacing m.basis m.factor c
 
 abbrev pub cone_line_of : ConeLine → Case → Meaning
 cone_line_of m c = maybe_of (corner_of (root_of cone_of)) m c
 
 abbrev pub edge_line_of : EdgeLine → Case → Meaning
-edge_line_of m c = root_of (corner_of (edition_of first_of second_of)) m c
+edge_line_of m c = root_of (corner_of (edition_of first_edge_of second_edge_of)) m c
 
 abbrev pub channel_lines : ChannelSheet → Case → List Meaning
 channel_lines s c =

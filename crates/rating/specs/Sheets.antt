@@ -1,7 +1,7 @@
 -- The sheet of a channel on a site, from the bytes bs of its certificate and the numbers n of the site.
---   geometry-in, values-in, factors-in, list-in   what the certificate says
---   opening-in bs t        the numbers that the load case is opened with
---   in-range bs n          question 5: every number of the site is in range for this channel
+--   geometry_in, values_in, factors_in, list_in   what the certificate says
+--   opening_in bs t        the numbers that the load case is opened with
+--   in_range bs n          question 5: every number of the site is in range for this channel
 --   IsPrepared bs t p      p holds the sheet with the certificate's and the site's numbers
 --   SheetFor bs n answer   the sheet, or the first question answered no: of the certificate, of the site's numbers, of
 --                          the strength class

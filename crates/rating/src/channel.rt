@@ -1,8 +1,8 @@
 // The thirteen lines of a channel on a site.
 ghost use Rattle.std.specs.Prelude.{◌≡◌, ◌≤◌, true};
 ghost use Rattle.certificate.specs.Ranges.{Between, GeometryInRange, ValuesInRange, FactorsInRange};
-ghost use Rattle.concrete_modes.specs.Cone.{cone_well};
-ghost use Rattle.concrete_modes.specs.Shared.{well_of};
+ghost use Rattle.concrete_modes.specs.Cones.{cone_well};
+ghost use Rattle.concrete_modes.specs.Edges.{well_of};
 ghost use Rattle.rating.specs.Lines.{cone_factor, edge_factor, IsSheet};
 
 use crate::concrete::{cone_line, edge_line};

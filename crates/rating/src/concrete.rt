@@ -1,8 +1,8 @@
 // The lines of concrete, from numbers in range. Lengths are in tenths of a millimetre.
 ghost use Rattle.std.specs.Prelude.{◌≡◌, ◌+◌, ◌*◌, ◌≤◌, true};
 ghost use Rattle.steel_modes.specs.Ranges.{factor_well};
-ghost use Rattle.concrete_modes.specs.Cone.{cone_well};
-ghost use Rattle.concrete_modes.specs.Shared.{well_of};
+ghost use Rattle.concrete_modes.specs.Cones.{cone_well};
+ghost use Rattle.concrete_modes.specs.Edges.{well_of};
 ghost use Rattle.forces.specs.Cases.{um};
 ghost use Rattle.rating.specs.Concrete.{IsCone, IsEdge, IsConeLine, IsEdgeLine};
 

@@ -1,9 +1,9 @@
 // The lines of steel and pull-out, from numbers in range.
 ghost use Rattle.std.specs.Prelude.{◌≡◌, true};
-ghost use Rattle.steel_modes.specs.AnchorSteel.{value_or_none};
-ghost use Rattle.steel_modes.specs.Flexure.{bending_well};
-ghost use Rattle.steel_modes.specs.Lip.{spacing_well};
-ghost use Rattle.steel_modes.specs.PullOut.{strength_well};
+ghost use Rattle.steel_modes.specs.Ranges.{value_or_none};
+ghost use Rattle.steel_modes.specs.Ranges.{bending_well};
+ghost use Rattle.steel_modes.specs.Ranges.{spacing_well};
+ghost use Rattle.steel_modes.specs.Ranges.{strength_well};
 ghost use Rattle.steel_modes.specs.Ranges.{factor_well, value_well};
 ghost use Rattle.rating.specs.Modes.{IsAnchorSteel, IsBoltSteel, IsLip, IsFlexure, IsPullOut};
 

@@ -1,7 +1,7 @@
 -- The greatest and the least number with a property.
 --   Greatest P r, Least P r   r has the property P, and no greater (no lesser) number has it
---   greatest-of k test        the greatest number below 2^k that passes a test, bit by bit; 0 where only 0 passes
---   least-of k test           the least number from 1 to 2^k that passes a test
+--   greatest_of k test        the greatest number below 2^k that passes a test, bit by bit; 0 where only 0 passes
+--   least_of k test           the least number from 1 to 2^k that passes a test
 use Rattle.std.specs.Prelude.{ℕ, zero, suc, ◌+◌, ◌^◌, ◌≤◌, Bool, true, false, not}
 
 pub record Greatest (P : ℕ → Type 0) (r : ℕ) : Type 0 where

@@ -1,8 +1,8 @@
 -- Whole roots, as definitions that compute.
---   square-root-of x, cube-root-of x   the greatest whole root of a number below 2^64
+--   square_root_of x, cube_root_of x   the greatest whole root of a number below 2^64
 --   second c, fourth c                 c^2 over 100 rounded up; that squared, over 10^8, rounded up
---   fifth-root-of x                    the greatest c with fourth c times c at most x
---   root-down-of a b, root-up-of a b   the square root of a over b in millionths, down and up
+--   fifth_root_of x                    the greatest c with fourth c times c at most x
+--   root_down_of a b, root_up_of a b   the square root of a over b in millionths, down and up
 use Rattle.std.specs.Prelude.{ℕ, ◌+◌, ◌*◌, ◌/◌, ◌^◌, nat_le}
 use Rattle.roots.specs.Extremes.{greatest_of, least_of}
 

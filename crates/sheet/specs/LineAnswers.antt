@@ -1,5 +1,5 @@
 -- What is asked of one line.
---   line-answer m p        the figures of the line m at its place p, from 1, or the first question answered no
+--   line_answer m p        the figures of the line m at its place p, from 1, or the first question answered no
 use Rattle.std.specs.Prelude.{ℕ, ◌-◌, ◌&&◌, [], ◌∷◌, Result, nat_le}
 use Rattle.bolts.specs.Asked.{first_no}
 use Rattle.bolts.specs.declared.refusal.Refusal.{Refusal}

@@ -1,9 +1,9 @@
 -- Modes that compare the force on each anchor with one resistance.
 --   LowForce c d k, HighForce c d k   the low and high readings of the exact force on the k-th anchor
---   on-anchors c, nowhere             all anchors; no place
---   force-meaning p d n f c           the mode at the places p, whose resistance is n hundredths of a mN over f
---   anchor-steel-meaning d v f c      the steel of an anchor: v N over f, no place where v is 0
---   pull-out-meaning v s f c          the pull-out of an anchor: v N times s hundredths over f
+--   on_anchors c, nowhere             all anchors; no place
+--   force_meaning p d n f c           the mode at the places p, whose resistance is n hundredths of a mN over f
+--   anchor_steel_meaning d v f c      the steel of an anchor: v N over f, no place where v is 0
+--   pull_out_meaning v s f c          the pull-out of an anchor: v N times s hundredths over f
 use Rattle.std.specs.Prelude.{ℕ, ◌*◌, ◌/◌, cond, ◌==◌}
 use Rattle.influence.specs.Exact.{low_length, high_length}
 use Rattle.bolts.specs.declared.bolt.Direction.{Direction}

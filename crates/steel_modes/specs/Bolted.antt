@@ -1,8 +1,8 @@
 -- Modes that compare the load of each bolt with a resistance.
 --   load_at c d i                 the load of the i-th bolt in mN
---   on-bolts c                    all bolts
---   load-meaning d c r x          the mode whose resistance is r i, and exactly x i, at the place i
---   bolt-steel-meaning d v f c    the steel of a bolt: v N over f
+--   on_bolts c                    all bolts
+--   load_meaning d c r x          the mode whose resistance is r i, and exactly x i, at the place i
+--   bolt_steel_meaning d v f c    the steel of a bolt: v N over f
 use Rattle.std.specs.Prelude.{ℕ, ◌*◌, ◌/◌, length}
 use Rattle.fractions.specs.Fractions.{Fraction, whole}
 use Rattle.bolts.specs.Bolts.{bolt_at}

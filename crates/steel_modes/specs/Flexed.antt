@@ -1,5 +1,5 @@
 -- The bending of the channel.
---   flexure-meaning v f c     v newton-metres over f, against the moment at each bolt
+--   flexure_meaning v f c     v newton-metres over f, against the moment at each bolt
 use Rattle.std.specs.Prelude.{ℕ, ◌*◌, ◌/◌}
 use Rattle.bolts.specs.declared.bolt.Direction.TheVariants.{Tension}
 use Rattle.forces.specs.Cases.{Case}

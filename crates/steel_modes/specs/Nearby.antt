@@ -1,7 +1,7 @@
 -- How far a bolt lies from the nearest other one, as a function of the bolts.
 --   closer d o              the smaller of a distance and another, if there is another
---   nearest-among xs k n    the least distance of the k-th bolt to another of the first n, in tenths
---   nearest-of xs k         to another of all; none where there is no other
+--   nearest_among xs k n    the least distance of the k-th bolt to another of the first n, in tenths
+--   nearest_of xs k         to another of all; none where there is no other
 use Rattle.std.specs.Prelude.{ℕ, zero, suc, min, cond, List, length, Some, None, Option, ◌==◌}
 use Rattle.bolts.specs.Neighbours.{distance}
 use Rattle.bolts.specs.declared.bolt.Bolt.{Bolt}

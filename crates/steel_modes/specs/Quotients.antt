@@ -1,5 +1,5 @@
 -- Characteristic values over their partial factor.
---   proper-factor f     a partial factor is not 0
+--   proper_factor f     a partial factor is not 0
 --   divided n f         n over the factor f
 use Rattle.std.specs.Prelude.{ℕ, ◌<◌}
 use Rattle.std.proofs.Common.{arith}

@@ -3,7 +3,7 @@
 --   accurate m            the line's allowance is at most 600 millionths
 --   shown ms l p          its effect, resistance and utilisation
 --   verdict ms            accepted exactly where no utilisation passes 10,000 and every combined check holds
---   show-answer ms l p, rate-answer ms   the figures, or the first question answered no
+--   show_answer ms l p, rate_answer ms   the figures, or the first question answered no
 use Rattle.std.specs.Prelude.{ℕ, ◌-◌, Bool, ◌&&◌, List, [], ◌∷◌, Ok, Err, Result, ◌==◌, nat_le}
 use Rattle.bolts.specs.Asked.{first_no}
 use Rattle.bolts.specs.declared.refusal.Refusal.{Refusal}

@@ -1,11 +1,11 @@
 -- The combined checks of tension and shear, over the utilisations of the lines, at every place that a case may have.
---   bolt-steel ms i       lines 4 and 8 at a bolt, the sum of the squares
+--   bolt_steel ms i       lines 4 and 8 at a bolt, the sum of the squares
 --   channel ms i          the greater of lines 3 and 5 at a bolt, and line 9
 --   anchor ms i           the greater of lines 1 and 2 at an anchor, and the greater of lines 10 and 11
 --   concrete ms           the largest of lines 6 and 7, and the largest of lines 12 and 13
---   check-1 .. check-4    whether each holds
---   failed-check ms       the number of the first that fails, or 0
---   line-within m         no utilisation of the line m passes 10,000
+--   check_1 .. check_4    whether each holds
+--   failed_check ms       the number of the first that fails, or 0
+--   line_within m         no utilisation of the line m passes 10,000
 --   none_over ms          none of the thirteen lines passes it
 use Rattle.std.specs.Prelude.{ℕ, zero, suc, ◌+◌, ◌*◌, max, Bool, true, cond, ◌&&◌, leb, List, nat_le}
 use Rattle.failure.specs.Meanings.{Meaning}

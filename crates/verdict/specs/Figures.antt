@@ -1,8 +1,8 @@
 -- The figures of a line at its places, which count from 0.
---   figures-of m i        effect, resistance and utilisation of the line m at the place i
---   figures-at m i        the same where the line has such a place, else none
---   no-figures            all 0
---   figures-or-none m i   the figures where the line has such a place, else all 0
+--   figures_of m i        effect, resistance and utilisation of the line m at the place i
+--   figures_at m i        the same where the line has such a place, else none
+--   no_figures            all 0
+--   figures_or_none m i   the figures where the line has such a place, else all 0
 --   Consistent xs         each utilisation of a list is that of its effect and its resistance
 use Rattle.std.specs.Prelude.{◌≡◌, ℕ, cond, List, Some, None, Option, nat_lt, slice_index_or}
 use Rattle.failure.specs.Meanings.{Meaning}

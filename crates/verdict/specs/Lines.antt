@@ -1,6 +1,6 @@
 -- The lines of a sheet: the meanings of its failure modes.
---   line-count    how many lines a sheet has
---   most-places   how many places a line has at most: a case has at most 16 bolts and at most 12 anchors
+--   line_count    how many lines a sheet has
+--   most_places   how many places a line has at most: a case has at most 16 bolts and at most 12 anchors
 --   no_line       a line without places
 --   nth ms k      the k-th line, from 0; no_line past the last
 --   line ms l     the l-th line, from 1

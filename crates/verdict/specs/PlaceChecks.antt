@@ -1,5 +1,5 @@
 -- The combined checks that are made at each place, by their name in the code.
---   sound-at check ms i   whether the check holds at the place i, from 0
+--   sound_at check ms i   whether the check holds at the place i, from 0
 --   sound check ms        whether it holds at every place
 use Rattle.std.specs.Prelude.{ℕ, Bool, List, nat_le}
 use Rattle.failure.specs.Meanings.{Meaning}
