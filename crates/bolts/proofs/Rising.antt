@@ -1,6 +1,6 @@
 -- With a bolt placed or lifted the bolts still rise, and with one placed there is one more.
 use Rattle.std.proofs.Common.{◌≡◌, ℕ, zero, suc, ◌+◌, ◌<◌, ◌≤◌, Bool, true, not, eqb, List, [], ◌∷◌, length, filter, sym, ap, ◌∙◌, subst, ⊎_elim, arith}
-use Rattle.std.specs.List.{AllByRecursion as All}
+use Rattle.std.specs.List.{AllByRecursion}
 use Rattle.std.proofs.lemmas.Bool.{cases_lt, cases_Bool}
 use Rattle.std.proofs.ByRecursion.{All-get_or, All-from_get_or, all_kept_by}
 use Rattle.std.proofs.lemmas.List.Edits.{length-insert}
@@ -12,7 +12,7 @@ use Rattle.bolts.proofs.Placed.{placed_is, spaced_inserted}
 -- each bolt lies 300 tenths or more before every later one
 abbrev pub Rises : List Bolt → Type 0
 Rises [] = Unit {0}
-Rises (x ∷ xs) = All (λ y. x.position + 300 ≤ y.position) xs × Rises xs
+Rises (x ∷ xs) = AllByRecursion (λ y. x.position + 300 ≤ y.position) xs × Rises xs
 
 pub rises_from : (xs : List Bolt) → Spaced xs → Rises xs
 rises_from [] s = tt

@@ -1,10 +1,9 @@
 -- The cone's resistance against its readings.
-use mathlib.Core.Path.{◌≡◌}
 use Prim.Native.Nat.{ℕ, ◌+◌, ◌*◌, ◌/◌, ◌^◌, ◌<◌, ◌≤◌}
-use native.Mathlib.Nat.{div-mul-le_self, lt-div-mul-add, mul-le-mul, mul-le-mul_right, mul-le-mul_left, le_of_mul-le-mul_right, mul-pos}
+use native.Mathlib.Nat.{div-mul-le_self, lt-div-mul-add, mul-le-mul_right}
 use native.Mathlib.Omega.{arith}
 use lib.Dec.{lit<}
-use Rattle.fractions.specs.Fractions.{Fraction, AtMost, whole, plus}
+use Rattle.fractions.specs.Fractions.{AtMost, whole, plus}
 use Rattle.fractions.proofs.Powers.{pow_two}
 use Rattle.fractions.proofs.Roots.{root_below, root_above}
 use Rattle.roots.specs.Extremes.{Greatest}

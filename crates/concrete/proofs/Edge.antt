@@ -1,10 +1,10 @@
 -- The edge's value by the second edition against its readings.
 use mathlib.Core.Path.{◌≡◌}
 use Prim.Native.Nat.{ℕ, ◌+◌, ◌*◌, ◌/◌, ◌^◌, ◌<◌, ◌≤◌}
-use native.Mathlib.Nat.{div-mul-le_self, lt-div-mul-add, mul-le-mul, mul-le-mul_right, mul-le-mul_left, le_of_mul-le-mul_right, mul-pos}
+use native.Mathlib.Nat.{mul-le-mul, mul-le-mul_right, mul-le-mul_left}
 use native.Mathlib.Omega.{arith}
 use lib.Dec.{lit<}
-use Rattle.fractions.specs.Fractions.{Fraction, AtMost, whole, over, plus, times}
+use Rattle.fractions.specs.Fractions.{AtMost, whole, over, times}
 use Rattle.fractions.proofs.Powers.{pow_two, pow_three}
 use Rattle.fractions.proofs.Roots.{root_below, root_above, square_below, cube_below}
 use Rattle.roots.specs.Extremes.{Greatest}

@@ -3,7 +3,7 @@
 --   edge-second k f c      by the second edition: k·√f·c^(4/3)
 --   edge-first k f c       by the first edition: k·√f·c^(3/2)
 --   edge-resistance x p γ  the value times p over the partial factor, down
-use Rattle.std.specs.Prelude.{ℕ, ◌*◌, ◌/◌, ◌^◌, ◌<◌}
+use Rattle.std.specs.Prelude.{ℕ, ◌*◌, ◌/◌, ◌^◌}
 use Rattle.std.proofs.Common.{lit<}
 use Rattle.fractions.specs.Fractions.{Fraction, PowerAtMost, PowerAtLeast, whole, over, times}
 use Rattle.roots.specs.Roots.{square_root_of, cube_root_of}

@@ -1,5 +1,5 @@
 -- The cone keeps what every mode owes.
-use Rattle.std.proofs.Common.{◌≡◌, ℕ, ◌+◌, ◌*◌, ◌/◌, ◌^◌, ◌<◌, ◌≤◌, sym, refl, mul-le-mul_right, mul-le-mul, arith}
+use Rattle.std.proofs.Common.{ℕ, ◌+◌, ◌*◌, ◌/◌, ◌≤◌, refl, mul-le-mul_right, mul-le-mul, arith}
 use native.Mathlib.Nat.{div-le_of_le-mul}
 use Rattle.fractions.specs.Fractions.{Fraction, AtMost, whole, plus}
 use Rattle.fractions.proofs.Powers.{pow_two}
@@ -9,7 +9,7 @@ use Rattle.roots.proofs.Roots.{square_root_is}
 use Rattle.bolts.specs.Loads.{total_load}
 use Rattle.bolts.specs.declared.bolt.Direction.{Direction}
 use Rattle.forces.specs.Cases.{Case, Valid}
-use Rattle.failure.specs.Meanings.{Exactly, LawfulAt, excess, shortfall}
+use Rattle.failure.specs.Meanings.{LawfulAt, excess, shortfall}
 use Rattle.groups.specs.Groups.{group_effect, low_effect, high_effect}
 use Rattle.groups.specs.declared.spacing.CharacteristicSpacing.{CharacteristicSpacing}
 use Rattle.groups.proofs.Effects.{effect_covers, effect_near}

@@ -1,5 +1,5 @@
 -- The edge keeps what every mode owes.
-use Rattle.std.proofs.Common.{◌≡◌, ℕ, ◌+◌, ◌*◌, ◌/◌, ◌<◌, ◌≤◌, refl, mul-le-mul_right, mul-le-mul_left, div-mul-le_self, le_of_mul-le-mul_right, arith, lit<}
+use Rattle.std.proofs.Common.{ℕ, ◌+◌, ◌*◌, ◌/◌, ◌<◌, ◌≤◌, refl, mul-le-mul_right, mul-le-mul_left, div-mul-le_self, le_of_mul-le-mul_right, arith, lit<}
 use native.Mathlib.Nat.{lt-div-mul-add}
 use Rattle.fractions.specs.Fractions.{Fraction, AtMost, whole, over, plus, times}
 use Rattle.fractions.proofs.Orders.{at_most_trans, plus_rises, at_most_refl}

@@ -1,5 +1,5 @@
 -- How great the numbers of an edge can be.
-use Rattle.std.proofs.Common.{ℕ, ◌*◌, ◌/◌, ◌^◌, ◌≤◌, mul-le-mul, arith}
+use Rattle.std.proofs.Common.{ℕ, ◌*◌, ◌^◌, ◌≤◌, mul-le-mul, arith}
 use Rattle.concrete.specs.Edge.{edge_square}
 
 pub strength_le : (g f : ℕ) → f ≤ 75 → g * g ≤ f * 10 ^ 12 → g ≤ 9000000

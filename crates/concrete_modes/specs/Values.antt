@@ -1,5 +1,5 @@
 -- The values of both editions against their readings.
-use Rattle.std.proofs.Common.{◌≡◌, ℕ, ◌+◌, ◌*◌, ◌/◌, ◌^◌, ◌<◌, ◌≤◌, refl, arith, lit<}
+use Rattle.std.proofs.Common.{ℕ, ◌+◌, ◌*◌, ◌^◌, ◌≤◌, refl, arith, lit<}
 use Rattle.fractions.specs.Fractions.{Fraction, AtMost, PowerAtMost, PowerAtLeast, whole, over, times}
 use Rattle.fractions.proofs.Powers.{pow_two, pow_three}
 use Rattle.fractions.proofs.Roots.{root_below, root_above}

@@ -1,7 +1,7 @@
 // The concrete cone about an anchor in tension, and the pry-out in shear, which is the cone's resistance times a factor.
-ghost use Rattle.std.specs.Prelude.{◌≡◌, true};
+ghost use Rattle.std.specs.Prelude.{◌≡◌, ◌≤◌, true};
 ghost use Rattle.steel_modes.specs.Ranges.{Made};
-ghost use Rattle.concrete.specs.Cone.{cone_spacing};
+ghost use Rattle.concrete.specs.Cone.{cone_spacing, cone_edge};
 ghost use Rattle.concrete_modes.specs.Cones.{cone_well, cone_meaning};
 ghost use Rattle.std.proofs.Common.{rules, arith};
 
@@ -12,9 +12,12 @@ use failure::places::{PlaceKind, Places};
 use groups::effect::group_effect;
 use groups::spacing::CharacteristicSpacing;
 use loadcase::closed::ClosedCase;
+use roots::division::{Divisor, div_up};
 use steel_modes::design::PartialFactor;
 
 mod basis;
+
+const HALVES: u64 = 2;
 
 // What the basic resistance is reckoned from: the factor k in tenths, the strength in N/mm², the embedment depth in
 // tenths of a millimetre, and the multiple in tenths, 10 for the cone itself.
@@ -53,6 +56,15 @@ impl Cone {
         } else {
             None
         }
+    }
+
+    // The characteristic edge distance in µm: half of the characteristic spacing, up.
+    pub fn characteristic_edge_distance(&self) -> u64
+        ensures value { result ≡ cone_edge self.now.basis.depth }
+        ensures large { 25000 ≤ result }
+        ensures small { result ≤ 2500000 }
+    {
+        div_up(self.spacing.um, Divisor { number: HALVES })
     }
 }
 

@@ -1,5 +1,5 @@
 -- The shortfall of a resistance, multiplied out.
-use Rattle.std.specs.Prelude.{ℕ, ◌+◌, ◌*◌, ◌/◌, ◌<◌, ◌≤◌}
+use Rattle.std.specs.Prelude.{ℕ, ◌+◌, ◌*◌, ◌/◌, ◌≤◌}
 use Rattle.std.proofs.Common.{mul-le-mul_right, le_of_mul-le-mul_right, arith}
 use Rattle.fractions.specs.Fractions.{Fraction, AtMost, whole, plus}
 use Rattle.failure.specs.Meanings.{shortfall}

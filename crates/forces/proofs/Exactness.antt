@@ -1,9 +1,9 @@
 -- The forces of every case are accurate and bounded.
-use Rattle.std.proofs.Common.{◌≡◌, ℕ, ◌+◌, ◌*◌, ◌<◌, ◌≤◌, length, get_or, sum_by, ap, arith}
+use Rattle.std.proofs.Common.{◌≡◌, ℕ, ◌+◌, ◌*◌, ◌≤◌, length, get_or, sum_by, ap, arith}
 use Rattle.std.specs.List.{range_with_len}
 use Rattle.std.proofs.lemmas.List.FromFn.{length-range_with_len, get_or-range_with_len}
 use Rattle.std.proofs.lemmas.List.Sums.{get_or-le-sum_by}
-use Rattle.fractions.specs.Fractions.{AtMost, whole, plus}
+use Rattle.fractions.specs.Fractions.{whole, plus}
 use Rattle.fractions.proofs.Orders.{at_most_trans, plus_rises, at_most_refl, whole_rises}
 use Rattle.influence.specs.Lengths as lengths
 use Rattle.influence.specs.Exact.{low_length, high_length}

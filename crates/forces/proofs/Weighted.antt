@@ -1,7 +1,7 @@
 -- Shares weighted by at most 1, against their high readings: what all anchors of a load exceed together. Weights in
 -- millionths.
-use Rattle.std.proofs.Common.{◌≡◌, ℕ, zero, suc, ◌+◌, ◌-◌, ◌*◌, ◌<◌, ◌≤◌, List, [], ◌∷◌, map, length, sum_by, sym, refl, ap, ◌∙◌, ⊎_elim, le_trans, mul-le-mul_right, mul-le-mul, mul-le-mul_left, mul-pos, le_of_mul-le-mul_right, arith}
-use Rattle.std.specs.List.{range_with_len, AllByRecursion as All}
+use Rattle.std.proofs.Common.{◌≡◌, ℕ, zero, suc, ◌+◌, ◌-◌, ◌*◌, ◌<◌, ◌≤◌, List, [], ◌∷◌, map, length, sum_by, refl, ap, ◌∙◌, ⊎_elim, le_trans, mul-le-mul_right, mul-le-mul_left, mul-pos, le_of_mul-le-mul_right, arith}
+use Rattle.std.specs.List.{range_with_len, AllByRecursion}
 use Rattle.std.proofs.lemmas.Bool.{cases_lt}
 use Rattle.fractions.specs.Fractions.{Fraction, AtMost, whole, less, total}
 use Rattle.roots.proofs.Quotients.{up_most}
@@ -147,7 +147,7 @@ moved : (W W' K K' R R' Z Z' : ℕ) → W ≡ W' → K ≡ K' → R ≡ R' → Z
 moved W W' K K' R R' Z Z' a b c e h = rw (a, b, c, e) h
 
 module _ (v : ℕ → ℕ) (small : (k : ℕ) → v k ≤ 1000000) (L : ℕ) (o : Opening) (d : Direction) (x y : Fraction) (ranged : InRange o) (wider : um o.spacing ≤ L) (long : 130000 ≤ L) (low : AtMost x (whole (L + 5))) (high : AtMost (whole L) y) where
-  pub forces_near : (bs : List Bolt) → All (λ b. b.position ≤ reach o) bs → All (λ b. Beyond x (anchor_distances o b)) bs → 13000 * weighted v (λ k. sum_by (share_by L o d k) bs) o.anchors * common x y o d bs ≤ 13000 * weighted v (λ k. (high_read x y o d bs k).above) o.anchors + slack d bs * common x y o d bs
+  pub forces_near : (bs : List Bolt) → AllByRecursion (λ b. b.position ≤ reach o) bs → AllByRecursion (λ b. Beyond x (anchor_distances o b)) bs → 13000 * weighted v (λ k. sum_by (share_by L o d k) bs) o.anchors * common x y o d bs ≤ 13000 * weighted v (λ k. (high_read x y o d bs k).above) o.anchors + slack d bs * common x y o d bs
   forces_near [] all past =
       let z = weighted_scaled v (λ k. 0) 0 o.anchors in
       omega arith

@@ -1,24 +1,21 @@
 -- The forces of a whole case against their exact readings, and their bounds.
-use Rattle.std.proofs.Common.{◌≡◌, ℕ, ◌+◌, ◌-◌, ◌*◌, ◌<◌, ◌≤◌, true, List, [], ◌∷◌, map, length, get_or, sum_by, sym, refl, ap, ◌∙◌, le_trans, mul-le-mul_right, mul-le-mul_left, arith}
-use Rattle.std.specs.List.{range_with_len, AllByRecursion as All}
-use Rattle.std.proofs.lemmas.List.FromFn.{length-range_with_len, get_or-range_with_len}
-use Rattle.std.proofs.ByRecursion.{All-from_get_or, All-weaker, sum_by_le}
+use Rattle.std.proofs.Common.{◌≡◌, ℕ, ◌+◌, ◌-◌, ◌*◌, ◌<◌, ◌≤◌, true, List, [], ◌∷◌, map, length, get_or, sum_by, ap, mul-le-mul_right, arith}
+use Rattle.std.specs.List.{range_with_len, AllByRecursion}
+use Rattle.std.proofs.ByRecursion.{All-from_get_or, sum_by_le}
 use Rattle.std.proofs.lemmas.Bool.{leb-true, and_parts}
-use Rattle.std.proofs.lemmas.List.Sums.{sum_by-cons, get_or-le-sum_by}
+use Rattle.std.proofs.lemmas.List.Sums.{sum_by-cons}
 use Rattle.fractions.specs.Fractions.{Fraction, AtMost, whole, plus, total}
 use Rattle.fractions.proofs.Totals.{plus_whole, whole_plus}
-use Rattle.fractions.proofs.Orders.{at_most_trans, plus_rises, at_most_refl, whole_rises}
 use Rattle.bolts.specs.Bolts.{Sound, no_bolt}
 use Rattle.bolts.specs.Loads.{load_of, loaded, total_load}
 use Rattle.bolts.specs.declared.bolt.Bolt.{Bolt}
 use Rattle.bolts.specs.declared.bolt.Direction.{Direction}
 use Rattle.bolts.specs.declared.bolt.Direction.TheVariants.{Tension, Shear}
-use Rattle.forces.specs.Shares.{gap, distances, share}
-use Rattle.forces.specs.Readings.{reading, Beyond}
-use Rattle.forces.specs.Cases.{Case, Valid, InRange, reach, um, mn, anchor_distances, anchor_distance, share_by, force_by, share_read, force_read, BeyondAll}
+use Rattle.forces.specs.Readings.{Beyond}
+use Rattle.forces.specs.Cases.{InRange, reach, um, anchor_distances, share_by, share_read}
 use Rattle.forces.specs.declared.opening.Opening.{Opening}
 use Rattle.forces.proofs.Accuracy.{share_covers, share_near}
-use Rattle.forces.proofs.Sums.{sum_by_swap, shares_le, weighted_le}
+use Rattle.forces.proofs.Sums.{sum_by_swap, shares_le}
 
 shuffle : (r R : Fraction) (m n v : ℕ) → AtMost (whole v) (plus (plus r (whole m)) (plus R (whole n))) → AtMost (whole v) (plus (plus r R) (whole (m + n)))
 shuffle r R m n v h = omega arith
@@ -33,7 +30,7 @@ within o ranged b h =
 
 -- a row of anchors, an anchor of it, and a length between two ends
 module _ (L : ℕ) (o : Opening) (d : Direction) (x y : Fraction) (ranged : InRange o) (wider : um o.spacing ≤ L) (long : 66000 ≤ L) (low : AtMost x (whole (L + 5))) (high : AtMost (whole L) y) (k : ℕ) (here : k < o.anchors) where
-  pub force_covers : (bolts : List Bolt) → All (λ b. b.position ≤ reach o) bolts → AtMost (total (map (share_read x y o d k) bolts)) (whole (sum_by (share_by L o d k) bolts))
+  pub force_covers : (bolts : List Bolt) → AllByRecursion (λ b. b.position ≤ reach o) bolts → AtMost (total (map (share_read x y o d k) bolts)) (whole (sum_by (share_by L o d k) bolts))
   force_covers [] all = omega arith
   force_covers (b ∷ bs) (h, all) =
       let one = share_covers (load_of d b) L o.anchors (um o.spacing) (um b.position) k x y here ranged.twelve (within o ranged b h) wider long low high in
@@ -41,7 +38,7 @@ module _ (L : ℕ) (o : Opening) (d : Direction) (x y : Fraction) (ranged : InRa
       let e = sum_by-cons (share_by L o d k) b bs in
       rw e (plus_whole (share_read x y o d k b) (total (map (share_read x y o d k) bs)) (share_by L o d k b) (sum_by (share_by L o d k) bs) one rest)
 
-  pub force_near : (bolts : List Bolt) → All (λ b. b.position ≤ reach o) bolts → All (λ b. Beyond x (anchor_distances o b)) bolts → AtMost (whole (sum_by (share_by L o d k) bolts)) (plus (total (map (share_read y x o d k) bolts)) (whole (total_load d bolts + length bolts)))
+  pub force_near : (bolts : List Bolt) → AllByRecursion (λ b. b.position ≤ reach o) bolts → AllByRecursion (λ b. Beyond x (anchor_distances o b)) bolts → AtMost (whole (sum_by (share_by L o d k) bolts)) (plus (total (map (share_read y x o d k) bolts)) (whole (total_load d bolts + length bolts)))
   force_near [] all past = omega arith
   force_near (b ∷ bs) (h, all) (p, past) =
       let one = share_near (load_of d b) L o.anchors (um o.spacing) (um b.position) k x y here ranged.twelve (within o ranged b h) wider long low high p in
@@ -61,10 +58,10 @@ load_le : (d : Direction) (b : Bolt) → loaded b ≡ true → load_of d b ≤ 2
 load_le Tension b h = leb-true _ _ (and_parts _ _ (and_parts _ _ h).0).0
 load_le Shear b h = leb-true _ _ (and_parts _ _ (and_parts _ _ h).0).1
 
-pub positions : (r : ℕ) (bolts : List Bolt) → Sound r bolts → All (λ b. b.position ≤ r) bolts
+pub positions : (r : ℕ) (bolts : List Bolt) → Sound r bolts → AllByRecursion (λ b. b.position ≤ r) bolts
 positions r bolts s = All-from_get_or (λ b. b.position ≤ r) bolts no_bolt (λ i h. (s i h).0)
 
-loads : (d : Direction) (r : ℕ) (bolts : List Bolt) → Sound r bolts → All (λ b. load_of d b ≤ 200000) bolts
+loads : (d : Direction) (r : ℕ) (bolts : List Bolt) → Sound r bolts → AllByRecursion (λ b. load_of d b ≤ 200000) bolts
 loads d r bolts s = All-from_get_or (λ b. load_of d b ≤ 200000) bolts no_bolt (λ i h. load_le d (get_or bolts i no_bolt) (s i h).1)
 
 pub total_load_le : (d : Direction) (r : ℕ) (bolts : List Bolt) → Sound r bolts → length bolts ≤ 16 → total_load d bolts ≤ 3200000
@@ -75,7 +72,7 @@ total_load_le d r bolts s few =
 
 -- all forces of a case together
 module _ (L : ℕ) (o : Opening) (d : Direction) (ranged : InRange o) (wider : um o.spacing ≤ L) (long : 66000 ≤ L) where
-  pub all_shares : (bolts : List Bolt) → All (λ b. b.position ≤ reach o) bolts → sum_by (λ b. sum_by (λ k. share_by L o d k b) (range_with_len 0 o.anchors)) bolts ≤ 1001 * total_load d bolts + 12 * length bolts
+  pub all_shares : (bolts : List Bolt) → AllByRecursion (λ b. b.position ≤ reach o) bolts → sum_by (λ b. sum_by (λ k. share_by L o d k b) (range_with_len 0 o.anchors)) bolts ≤ 1001 * total_load d bolts + 12 * length bolts
   all_shares [] all = omega arith
   all_shares (b ∷ bs) (h, all) =
       let one = shares_le (load_of d b) L o.anchors (um o.spacing) (um b.position) (omega (arith, ranged.two)) ranged.twelve (within o ranged b h) wider long in

@@ -4,8 +4,8 @@
 --   Valid c                  every number in range, at most 16 bolts, 300 tenths or more apart
 --   force-by L c d k         the force on the k-th anchor, from 0, with the influence length L
 --   forces-by L c d          the forces on all anchors
-use Rattle.std.specs.Prelude.{◌≡◌, ℕ, ◌+◌, ◌-◌, ◌*◌, ◌<◌, ◌≤◌, List, [], ◌∷◌, map, length, sum_by}
-use Rattle.std.specs.List.{range_with_len, AllByRecursion as All}
+use Rattle.std.specs.Prelude.{ℕ, ◌-◌, ◌*◌, ◌≤◌, List, map, length, sum_by}
+use Rattle.std.specs.List.{range_with_len, AllByRecursion}
 use Rattle.fractions.specs.Fractions.{Fraction, total}
 use Rattle.bolts.specs.Bolts.{Spaced, Sound}
 use Rattle.bolts.specs.Loads.{load_of}
@@ -68,4 +68,4 @@ force_read x y c d k = total (map (share_read x y c.opening d k) c.bolts)
 
 -- x lies beyond the anchor nearest to each bolt
 abbrev pub BeyondAll : Fraction → Case → Type 0
-BeyondAll x c = All (λ b. Beyond x (anchor_distances c.opening b)) c.bolts
+BeyondAll x c = AllByRecursion (λ b. Beyond x (anchor_distances c.opening b)) c.bolts

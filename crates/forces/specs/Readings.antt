@@ -4,7 +4,7 @@
 --   reading F x y d ds      F·(x - d) over the sum of y - d
 --   Beyond x ds             x lies beyond the nearest anchor
 use Rattle.std.specs.Prelude.{ℕ, ◌+◌, ◌-◌, ◌*◌, ◌<◌, List, [], ◌∷◌}
-use Rattle.std.proofs.Common.{arith, lit<}
+use Rattle.std.proofs.Common.{arith}
 use Rattle.fractions.specs.Fractions.{Fraction, less}
 
 abbrev pub spread_of : Fraction → List ℕ → ℕ

@@ -1,9 +1,9 @@
 -- The group effect is never below its low readings, and hardly above its high ones.
-use Rattle.std.proofs.Common.{◌≡◌, ℕ, ◌+◌, ◌-◌, ◌*◌, ◌<◌, ◌≤◌, Bool, true, false, cond, eqb, List, [], ◌∷◌, map, length, sum_by, sym, refl, ap, ◌∙◌, mul-le-mul_right, mul-le-mul, mul-le-mul_left, mul-pos, le_of_mul-le-mul_right, arith, lit<}
-use Rattle.std.specs.List.{range_with_len, AllByRecursion as All}
+use Rattle.std.proofs.Common.{◌≡◌, ℕ, ◌+◌, ◌-◌, ◌*◌, ◌<◌, ◌≤◌, Bool, true, false, cond, eqb, List, [], ◌∷◌, map, length, sum_by, refl, ap, mul-le-mul_right, mul-le-mul_left, le_of_mul-le-mul_right, arith, lit<}
+use Rattle.std.specs.List.{range_with_len, AllByRecursion}
 use Rattle.std.proofs.lemmas.List.Sums.{sum_by-cons}
 use Rattle.std.proofs.lemmas.List.FromFn.{length-range_with_len}
-use Rattle.fractions.specs.Fractions.{Fraction, AtMost, whole, over, plus, times, total}
+use Rattle.fractions.specs.Fractions.{Fraction, AtMost, whole, plus, times, total}
 use Rattle.fractions.proofs.Totals.{plus_whole}
 use Rattle.influence.specs.Lengths as lengths
 use Rattle.influence.specs.Exact.{low_length, high_length}
@@ -18,17 +18,17 @@ use Rattle.forces.proofs.Exactness.{accurate, forces_sum}
 use Rattle.forces.proofs.Weighted.{weighted, high_read, common, below_same, forces_near}
 use Rattle.forces.proofs.Whole.{positions}
 use Rattle.forces.specs.declared.opening.Opening.{Opening}
-use Rattle.groups.specs.Weights.{weight, left, LowWeight, HighWeight, low_weight, high_weight}
+use Rattle.groups.specs.Weights.{weight, low_weight, high_weight}
 use Rattle.groups.specs.Groups.{apart, weight_on, part, group_effect, own_or, LowChoice, HighChoice, low_part, high_part, low_effect, high_effect}
 use Rattle.groups.proofs.Weights.{weight_covers, weight_near, weight_small}
 
 -- each reading is at most its number, so the total is
-totals_le : {X : Type 0} (f : X → Fraction) (g : X → ℕ) (xs : List X) → All (λ x. AtMost (f x) (whole (g x))) xs → AtMost (total (map f xs)) (whole (sum_by g xs))
+totals_le : {X : Type 0} (f : X → Fraction) (g : X → ℕ) (xs : List X) → AllByRecursion (λ x. AtMost (f x) (whole (g x))) xs → AtMost (total (map f xs)) (whole (sum_by g xs))
 totals_le f g [] all = omega arith
 totals_le f g (x ∷ xs) (h, all) = let e = sum_by-cons g x xs in rw e (plus_whole (f x) (total (map f xs)) (g x) (sum_by g xs) h (totals_le f g xs all))
 
 -- numbers over one divisor, each at most its reading
-over_totals : {X : Type 0} (f : X → Fraction) (g : X → ℕ) (D : ℕ) (xs : List X) → All (λ x. g x * (f x).below ≤ (f x).above * D) xs → sum_by g xs * (total (map f xs)).below ≤ (total (map f xs)).above * D
+over_totals : {X : Type 0} (f : X → Fraction) (g : X → ℕ) (D : ℕ) (xs : List X) → AllByRecursion (λ x. g x * (f x).below ≤ (f x).above * D) xs → sum_by g xs * (total (map f xs)).below ≤ (total (map f xs)).above * D
 over_totals f g D [] all = omega arith
 over_totals f g D (x ∷ xs) (h, all) =
     let e = ap (λ (n : ℕ). n * ((f x).below * (total (map f xs)).below)) (sum_by-cons g x xs) in
@@ -37,7 +37,7 @@ over_totals f g D (x ∷ xs) (h, all) =
     omega arith
 
 -- what holds of every anchor
-all_anchors : (P : ℕ → Type 0) (a n m : ℕ) → a + n ≤ m → ((j : ℕ) → j < m → P j) → All P (range_with_len a n)
+all_anchors : (P : ℕ → Type 0) (a n m : ℕ) → a + n ≤ m → ((j : ℕ) → j < m → P j) → AllByRecursion P (range_with_len a n)
 all_anchors P a Prim.Native.Nat.zero m h f = tt
 all_anchors P a (Prim.Native.Nat.suc n) m h f = (f a (omega arith), all_anchors P (a + 1) n m (omega arith) f)
 

@@ -1,18 +1,17 @@
 -- The shown weight against the exact one.
-use Rattle.std.proofs.Common.{◌≡◌, ℕ, ◌+◌, ◌-◌, ◌*◌, ◌^◌, ◌<◌, ◌≤◌, Bool, true, false, cond, eqb, ltb, sym, refl, ap, ◌∙◌, subst, ⊎_elim, mul-le-mul_right, mul-le-mul_left, arith, lit<}
+use Rattle.std.proofs.Common.{◌≡◌, ℕ, ◌+◌, ◌-◌, ◌*◌, ◌^◌, ◌<◌, ◌≤◌, Bool, true, false, cond, eqb, ap, subst, ⊎_elim, mul-le-mul_right, mul-le-mul_left, arith, lit<}
 use native.Mathlib.Nat.{mul-sub}
 use Rattle.std.proofs.lemmas.Bool.{cases_lt, cond-true, cond-false, lt-ltb, le-ltb}
-use Rattle.fractions.specs.Fractions.{Fraction, PowerAtMost, PowerAtLeast}
 use Rattle.fractions.proofs.Powers.{pow_two}
 use Rattle.fractions.proofs.Roots.{root_below, root_above}
 use Rattle.roots.specs.Division.{up}
 use Rattle.roots.specs.Extremes.{Least}
 use Rattle.roots.specs.Roots.{root_up_of}
 use Rattle.roots.proofs.Quotients.{up_least, up_most}
-use Rattle.roots.proofs.Roots.{root_up_is, root_up_within}
+use Rattle.roots.proofs.Roots.{root_up_is}
 use Rattle.forces.specs.declared.opening.Opening.{Opening}
 use Rattle.groups.specs.Groups.{apart, weight_on}
-use Rattle.groups.specs.Weights.{weight, left, LowWeight, HighWeight}
+use Rattle.groups.specs.Weights.{weight, LowWeight, HighWeight}
 
 -- within the spacing: u is what is left of it, r the root of u over S, up
 module _ (S u r : ℕ) (pos : 0 < S) (some : 0 < u) (part : u ≤ S) (is : Least (λ n. u * 10 ^ 12 ≤ n * n * S) r) where

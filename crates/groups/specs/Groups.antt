@@ -4,7 +4,7 @@
 --   group-effect S c d k     the sum over all anchors
 --   Choice S c k             ends of the influence length, and of the root in each neighbour's weight
 --   low-effect, high-effect  the exact effect at a choice of lower, or upper, ends
-use Rattle.std.specs.Prelude.{◌≡◌, ℕ, ◌+◌, ◌*◌, ◌<◌, Bool, true, false, cond, List, map, sum_by, ◌==◌}
+use Rattle.std.specs.Prelude.{ℕ, ◌+◌, ◌*◌, ◌<◌, Bool, true, false, cond, map, sum_by, ◌==◌}
 use Rattle.std.specs.List.{range_with_len}
 use Rattle.fractions.specs.Fractions.{Fraction, AtMost, whole, plus, times, total}
 use Rattle.influence.specs.Exact.{low_length, high_length}

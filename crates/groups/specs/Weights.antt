@@ -2,7 +2,7 @@
 --   weight S d          the weight in millionths, rounded up; 0 from S on
 --   LowWeight S d q     q is a low reading of the exact weight: (S - d) over S times a lower end of its root
 --   HighWeight S d q    likewise with an upper end
-use Rattle.std.specs.Prelude.{◌≡◌, ℕ, ◌-◌, ◌*◌, ◌<◌, cond, nat_lt}
+use Rattle.std.specs.Prelude.{ℕ, ◌-◌, ◌*◌, ◌<◌, cond, nat_lt}
 use Rattle.fractions.specs.Fractions.{Fraction, PowerAtMost, PowerAtLeast, over, times}
 use Rattle.roots.specs.Division.{up}
 use Rattle.roots.specs.Roots.{root_up_of}

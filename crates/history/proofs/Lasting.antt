@@ -1,6 +1,6 @@
 -- What lasts over one turn more.
 use Rattle.std.proofs.Common.{◌≡◌, ℕ, ◌⊎◌, List, [], ◌∷◌, ◌++◌, sym, refl, ap, ◌∙◌, subst, inl, inr, ⊎_elim, arith}
-use Rattle.std.specs.List.{AllByRecursion as All}
+use Rattle.std.specs.List.{AllByRecursion}
 use Rattle.std.proofs.ByRecursion.{All-push}
 use Rattle.std.proofs.lemmas.List.{append_assoc, same_from_push}
 use Rattle.history.specs.Runs.{Turn, Lasts}
@@ -24,7 +24,7 @@ last_or h before since v t e =
     inr (r.0, r.2 ∙ ap (λ x. r.0 ++ (x ∷ [])) (sym s.1), s.0))
     (unsnoc since)
 
-all_split : {X : Type 0} (P : X → Type 0) (xs : List X) (x : X) → All P (xs ++ (x ∷ [])) → All P xs × P x
+all_split : {X : Type 0} (P : X → Type 0) (xs : List X) (x : X) → AllByRecursion P (xs ++ (x ∷ [])) → AllByRecursion P xs × P x
 all_split P [] x h = (tt, h.0)
 all_split P (y ∷ xs) x h = let r = all_split P xs x h.1 in ((h.0, r.0), r.1)
 
@@ -38,7 +38,7 @@ lasts_new h t u = (h, [], refl, tt)
 pub lasts_back : (h : List Turn) (v t u : Turn) → Lasts (h ++ (v ∷ [])) t u → (v ≡ t) ⊎ (Lasts h t u × (v ≡ u → ⊥))
 lasts_back h v t u s =
     ⊎_elim (λ e. inl e)
-    (λ r. let a = all_split (λ w. w ≡ u → ⊥) r.0 v (subst (All (λ w. w ≡ u → ⊥)) r.1 s.3) in inr ((s.0, r.0, r.2, a.0), a.1))
+    (λ r. let a = all_split (λ w. w ≡ u → ⊥) r.0 v (subst (AllByRecursion (λ w. w ≡ u → ⊥)) r.1 s.3) in inr ((s.0, r.0, r.2, a.0), a.1))
     (last_or h s.0 s.1 v t s.2)
 
 -- nothing lasts before the first turn

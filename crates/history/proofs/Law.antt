@@ -1,6 +1,6 @@
 -- The answers of the history follow the law on runs.
 use Rattle.std.proofs.Common.{◌≡◌, suc, Bool, true, false, List, [], ◌∷◌, ◌++◌, length, Ok, Err, Result, sym, refl, ap, ◌∙◌, subst}
-use Rattle.std.specs.List.{AllByRecursion as All}
+use Rattle.std.specs.List.{AllByRecursion}
 use Rattle.std.proofs.lemmas.Bool.{and_parts}
 use Rattle.std.proofs.lemmas.List.{append_assoc, append-nil}
 use Rattle.bolts.specs.Asked.{first_no}
@@ -88,12 +88,12 @@ closed_then lines c false Reopen h = never (cc)
 closed_then lines c closed (Show l p) h = closed_kept (record { case = c; closed = closed }) (Show l p) _ refl
 closed_then lines c closed Rate h = closed_kept (record { case = c; closed = closed }) Rate _ refl
 
-all_in : (lines : Case → List Meaning) (st : Standing) (calls : List Call) → builds st.closed calls ≡ true → All (λ g. g ≡ OutOfTurn → ⊥) (history lines st calls)
+all_in : (lines : Case → List Meaning) (st : Standing) (calls : List Call) → builds st.closed calls ≡ true → AllByRecursion (λ g. g ≡ OutOfTurn → ⊥) (history lines st calls)
 all_in lines st [] h = tt
 all_in lines st (k ∷ ks) h =
     let p = and_parts (fits st.closed k) (builds (then_closed st.closed k) ks) h in
     let next : (after st k (answer_of lines st k)).closed ≡ then_closed st.closed k = closed_then lines st.case st.closed k p.0 in
     (one_in lines st.case st.closed k p.0, all_in lines (after st k (answer_of lines st k)) ks (ap (λ x. builds x ks) next ∙ p.1))
 
-pub never_out : (lines : Case → List Meaning) (o : Opening) (calls : List Call) → builds false calls ≡ true → All (λ g. g ≡ OutOfTurn → ⊥) (history lines (start o) calls)
+pub never_out : (lines : Case → List Meaning) (o : Opening) (calls : List Call) → builds false calls ≡ true → AllByRecursion (λ g. g ≡ OutOfTurn → ⊥) (history lines (start o) calls)
 never_out lines o calls h = all_in lines (start o) calls h

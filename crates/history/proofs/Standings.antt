@@ -1,6 +1,6 @@
 -- How a case stands after one turn more.
 use Rattle.std.proofs.Common.{◌≡◌, ℕ, Bool, true, false, cond, List, [], ◌∷◌, ◌++◌, sym, refl, ap, ◌∙◌, ⊎_elim, arith}
-use Rattle.std.specs.List.{AllByRecursion as All}
+use Rattle.std.specs.List.{AllByRecursion}
 use Rattle.bolts.specs.Asked.{Asked, first_no}
 use Rattle.bolts.specs.Bolts.{clear, placed, lifted}
 use Rattle.bolts.specs.Placing.{asked_of_place}
@@ -148,7 +148,7 @@ module _ (o : Opening) (h : List Turn) (st : Standing) (s : Stands o h st) where
   stands_after k OutOfTurn c = stands_idle k OutOfTurn (λ e. never (cc))
 
 -- what was granted had every question answered yes
-all_yes : (qs : Asked) → or_refused (λ _. Done) (first_no qs) ≡ Done → All (λ q. q.0 ≡ true) qs
+all_yes : (qs : Asked) → or_refused (λ _. Done) (first_no qs) ≡ Done → AllByRecursion (λ q. q.0 ≡ true) qs
 all_yes [] e = tt
 all_yes ((true, r) ∷ qs) e = (refl, all_yes qs e)
 all_yes ((false, r) ∷ qs) e = never (cc)
@@ -158,7 +158,7 @@ done_open true a e = never (cc)
 done_open false a e = e
 
 -- what is asked of a place that was done
-pub place_asked : (lines : Case → List Meaning) (st : Standing) (b : Bolt) → answer_of lines st (Place b) ≡ Done → All (λ q. q.0 ≡ true) (asked_of_place (reach st.case.opening) st.case.bolts b)
+pub place_asked : (lines : Case → List Meaning) (st : Standing) (b : Bolt) → answer_of lines st (Place b) ≡ Done → AllByRecursion (λ q. q.0 ≡ true) (asked_of_place (reach st.case.opening) st.case.bolts b)
 place_asked lines st b e =
     all_yes (asked_of_place (reach st.case.opening) st.case.bolts b) (done_open st.closed _ e)
 

@@ -1,6 +1,6 @@
 -- A case stays valid.
 use Rattle.std.proofs.Common.{◌≡◌, ℕ, ◌≤◌, Bool, true, false, not, ◌&&◌, eqb, ltb, leb, List, [], ◌∷◌, Ok, filter, sym, refl, ap, ◌∙◌, arith}
-use Rattle.std.specs.List.{AllByRecursion as All}
+use Rattle.std.specs.List.{AllByRecursion}
 use Rattle.std.proofs.lemmas.Bool.{and_parts, leb-true, ltb-true}
 use Rattle.std.proofs.lemmas.List.Sums.{length-filter, count_by-le-length}
 use Rattle.std.proofs.ByRecursion.{All-get_or, All-from_get_or, All-append, all_kept_by}
@@ -48,10 +48,10 @@ valid_new o h =
 abbrev Fit : ℕ → Bolt → Type 0
 Fit r x = (x.position ≤ r) × (loaded x ≡ true)
 
-each_fits : (r : ℕ) (xs : List Bolt) → Sound r xs → All (Fit r) xs
+each_fits : (r : ℕ) (xs : List Bolt) → Sound r xs → AllByRecursion (Fit r) xs
 each_fits r xs s = All-from_get_or (Fit r) xs no_bolt s
 
-sound_from : (r : ℕ) (xs : List Bolt) → All (Fit r) xs → Sound r xs
+sound_from : (r : ℕ) (xs : List Bolt) → AllByRecursion (Fit r) xs → Sound r xs
 sound_from r xs a k h = All-get_or (Fit r) xs k no_bolt h a
 
 sound_placed : (r : ℕ) (b : Bolt) (xs : List Bolt) → Fit r b → Sound r xs → Sound r (placed b xs)
@@ -65,7 +65,7 @@ sound_lifted : (r p : ℕ) (xs : List Bolt) → Sound r xs → Sound r (lifted p
 sound_lifted r p xs s =
     sound_from r (lifted p xs) (all_kept_by (λ x. not (eqb x.position p)) (Fit r) xs (each_fits r xs s))
 
-valid_placed : (c : Case) (b : Bolt) → Valid c → All (λ q. q.0 ≡ true) (asked_of_place (reach c.opening) c.bolts b) → Valid (record { opening = c.opening; bolts = placed b c.bolts })
+valid_placed : (c : Case) (b : Bolt) → Valid c → AllByRecursion (λ q. q.0 ≡ true) (asked_of_place (reach c.opening) c.bolts b) → Valid (record { opening = c.opening; bolts = placed b c.bolts })
 valid_placed c b v y =
     let clear = y.1.1.1.0 in
     let room = ltb-true _ _ y.1.1.0 in
@@ -87,7 +87,7 @@ valid_lifted c p v =
     }
 
 -- ---- one turn more
-valid_changed : (st : Standing) (k : Call) → ((b : Bolt) → k ≡ Place b → All (λ q. q.0 ≡ true) (asked_of_place (reach st.case.opening) st.case.bolts b)) → Valid st.case → Valid (changed k st).case
+valid_changed : (st : Standing) (k : Call) → ((b : Bolt) → k ≡ Place b → AllByRecursion (λ q. q.0 ≡ true) (asked_of_place (reach st.case.opening) st.case.bolts b)) → Valid st.case → Valid (changed k st).case
 valid_changed st (Place b) y v = valid_placed st.case b v (y b refl)
 valid_changed st (Lift p) y v = valid_lifted st.case p v
 valid_changed st Close y v = v
@@ -95,7 +95,7 @@ valid_changed st Reopen y v = v
 valid_changed st (Show l p) y v = v
 valid_changed st Rate y v = v
 
-valid_after : (st : Standing) (k : Call) (a : Answer) → ((b : Bolt) → k ≡ Place b → a ≡ Done → All (λ q. q.0 ≡ true) (asked_of_place (reach st.case.opening) st.case.bolts b)) → Valid st.case → Valid (after st k a).case
+valid_after : (st : Standing) (k : Call) (a : Answer) → ((b : Bolt) → k ≡ Place b → a ≡ Done → AllByRecursion (λ q. q.0 ≡ true) (asked_of_place (reach st.case.opening) st.case.bolts b)) → Valid st.case → Valid (after st k a).case
 valid_after st k Done y v = valid_changed st k (λ b e. y b e refl) v
 valid_after st k (Refused r) y v = v
 valid_after st k (Shown f) y v = v

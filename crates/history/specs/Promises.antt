@@ -10,7 +10,7 @@
 --   Kept lines o ks r        the promise is kept; or the opening was refused, or memory was wanting for a lawful one
 use Rattle.std.specs.Prelude.{◌≡◌, ℕ, ◌-◌, ◌<◌, true, false, List, Ok, Err, vec_items, Result, Vec, ◌≢◌}
 use Rattle.std.specs.declared.alloc.Global.{Global}
-use Rattle.std.specs.List.{AllByRecursion as All}
+use Rattle.std.specs.List.{AllByRecursion}
 use Rattle.fractions.specs.Fractions.{Fraction, AtMost, whole, plus}
 use Rattle.bolts.specs.Asked.{first_no}
 use Rattle.bolts.specs.Loads.{total_load}
@@ -62,7 +62,7 @@ pub record Promise (lines : Case → List Meaning) (o : Opening) (calls : List C
   pub by_law : Follows lines o calls answers
   pub only_these : (others : List Answer) → Follows lines o calls others → others ≡ answers
   pub always_valid : EachTurn o (turns calls answers) (λ st t. Valid st.case)
-  pub never_out_of_turn : builds false calls ≡ true → All (λ g. g ≢ OutOfTurn) answers
+  pub never_out_of_turn : builds false calls ≡ true → AllByRecursion (λ g. g ≢ OutOfTurn) answers
   -- what is shown, against the exact effect and resistance with the bolts held at the turn
   pub shown_safe : EachTurn o (turns calls answers) (AtShow lines (λ c m i f. SafeFigures m i f))
   pub shown_close : EachTurn o (turns calls answers) (AtShow lines CloseFigures)

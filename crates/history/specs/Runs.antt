@@ -11,7 +11,7 @@
 --   fits x k, builds x ks       the call builds, or the calls in this order do, on a closed case, with x false on an open one
 --   then-closed x k             whether the case is closed after a call that fits
 use Rattle.std.specs.Prelude.{◌≡◌, ℕ, Bool, true, false, not, ◌&&◌, List, [], ◌∷◌, ◌++◌, length, ◌≢◌}
-use Rattle.std.specs.List.{AllByRecursion as All}
+use Rattle.std.specs.List.{AllByRecursion}
 use Rattle.bolts.specs.Bolts.{Spaced, Among}
 use Rattle.bolts.specs.declared.bolt.Bolt.{Bolt}
 use Rattle.forces.specs.Cases.{Case}
@@ -53,7 +53,7 @@ abbrev pub rating : Verdict → Turn
 rating v = record { call = Rate; answer = Rated v }
 
 abbrev pub Lasts : List Turn → Turn → Turn → Type 0
-Lasts h t u = (before : List Turn) × (since : List Turn) × (h ≡ before ++ (t ∷ since)) × All (λ v. v ≢ u) since
+Lasts h t u = (before : List Turn) × (since : List Turn) × (h ≡ before ++ (t ∷ since)) × AllByRecursion (λ v. v ≢ u) since
 
 pub record Holds (h : List Turn) (xs : List Bolt) : Type 0 where
   pub rising : Spaced xs

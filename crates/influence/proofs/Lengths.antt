@@ -1,5 +1,5 @@
 -- The influence length as defined: its steps, its bounds, and the exact length that it encloses.
-use Rattle.std.proofs.Common.{ℕ, ◌+◌, ◌*◌, ◌^◌, ◌<◌, ◌≤◌, refl, arith}
+use Rattle.std.proofs.Common.{ℕ, ◌+◌, ◌*◌, ◌^◌, ◌≤◌, refl, arith}
 use Rattle.fractions.proofs.Roots.{square_below}
 use Rattle.roots.specs.Extremes.{Greatest}
 use Rattle.roots.specs.Roots.{fourth}

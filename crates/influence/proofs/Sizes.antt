@@ -1,5 +1,5 @@
 -- How large the steps of the influence length are.
-use Rattle.std.proofs.Common.{ℕ, ◌+◌, ◌*◌, ◌/◌, ◌^◌, ◌<◌, ◌≤◌, le_trans, le_of_eq, mul-le-mul_right, mul-le-mul, arith, lit<}
+use Rattle.std.proofs.Common.{ℕ, ◌+◌, ◌*◌, ◌^◌, ◌<◌, ◌≤◌, le_trans, le_of_eq, mul-le-mul_right, mul-le-mul, arith, lit<}
 use native.Mathlib.Nat.{pow-le-pow_left}
 use Rattle.fractions.proofs.Powers.{pow_four, pow_five, mul_pow, pow_mul, root_le}
 use Rattle.fractions.proofs.Roots.{square_below}

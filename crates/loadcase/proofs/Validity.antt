@@ -1,5 +1,5 @@
 -- Every case of the code is a valid case.
-use Rattle.std.proofs.Common.{◌≡◌, ℕ, ◌≤◌, sym, subst, arith}
+use Rattle.std.proofs.Common.{ℕ, ◌≤◌, subst, arith}
 use Rattle.bolts.specs.Bolts.{Sound}
 use Rattle.bolts.specs.Tables.{reaches}
 use Rattle.bolts.specs.declared.bolt.Bolt.{Bolt}

@@ -1,5 +1,5 @@
 -- What the roots are taken of rises.
-use Rattle.std.specs.Prelude.{ℕ, ◌+◌, ◌*◌, ◌/◌, ◌≤◌}
+use Rattle.std.specs.Prelude.{ℕ, ◌*◌, ◌≤◌}
 use Rattle.std.proofs.Common.{mul-le-mul, mul-le-mul_right, arith}
 use Rattle.roots.specs.Roots.{second, fourth}
 

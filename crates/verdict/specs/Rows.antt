@@ -3,7 +3,7 @@
 --   RowOf m r             the row r is of the line m: its kind, how many places, and the figures of each
 --   row_line r            the line as far as its row tells it
 --   row-lines rs          the lines of thirteen rows
-use Rattle.std.specs.Prelude.{◌≡◌, ℕ, zero, suc, ◌≤◌, List, [], ◌∷◌, get_or, slice_index_or, refl}
+use Rattle.std.specs.Prelude.{◌≡◌, ℕ, zero, suc, List, [], ◌∷◌, get_or, slice_index_or, refl}
 use Rattle.std.proofs.Common.{lit≤}
 use Rattle.failure.specs.Meanings.{Meaning}
 use Rattle.failure.specs.declared.places.PlaceKind.TheVariants.{Nothing}

@@ -1,4 +1,4 @@
-use mathlib.Core.Path.{◌≡◌, refl, ap, ◌∙◌}
+use mathlib.Core.Path.{refl, ap, ◌∙◌}
 use Prim.Native.Nat.{ℕ}
 use Rattle.roots.specs.Extremes.{by_bits, greatest_of, least_of}
 use Rattle.influence.proofs.Figure.{figure_root, figure_length}

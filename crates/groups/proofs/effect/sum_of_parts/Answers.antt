@@ -1,4 +1,4 @@
-use Rattle.std.proofs.Common.{◌≡◌, ℕ, suc, ◌+◌, ◌*◌, ◌<◌, ◌≤◌, sum_by, sym, ap, ◌∙◌, mul-le-mul, add-one, arith}
+use Rattle.std.proofs.Common.{◌≡◌, ℕ, ◌+◌, ◌*◌, ◌<◌, ◌≤◌, sum_by, ap, ◌∙◌, mul-le-mul, add-one, arith}
 use Rattle.std.specs.List.{range_with_len}
 use Rattle.forces.proofs.Sums.{sum_by_counting}
 use Rattle.roots.specs.Division.{up}

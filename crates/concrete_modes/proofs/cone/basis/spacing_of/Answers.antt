@@ -1,4 +1,4 @@
-use Rattle.std.proofs.Common.{◌≡◌, ℕ, ◌-◌, ◌*◌, ◌<◌, ◌≤◌, max, ap, ◌∙◌, arith}
+use Rattle.std.proofs.Common.{ℕ, ◌-◌, ◌*◌, ◌≤◌, max, ap, ◌∙◌, arith}
 use Rattle.roots.specs.Division.{up}
 use Rattle.concrete_modes.specs.Squares.{wide_le}
 use Rattle.concrete_modes.proofs.cone.basis.spacing_of.Goals as goal

@@ -1,6 +1,5 @@
-use Rattle.std.proofs.Common.{◌*◌, ◌≤◌, arith}
+use Rattle.std.proofs.Common.{◌≤◌, arith}
 use Rattle.std.proofs.lemmas.Bool.Decides.{nat_tests}
-use Rattle.concrete.specs.Cone.{cone_square}
 use Rattle.concrete_modes.specs.Squares.{factor_le, depth_le, product_le, square_le}
 use Rattle.concrete_modes.proofs.cone.basis.square_of.Goals as goal
 

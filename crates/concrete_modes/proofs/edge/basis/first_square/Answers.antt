@@ -1,4 +1,4 @@
-use Rattle.std.proofs.Common.{◌*◌, ◌≤◌, arith}
+use Rattle.std.proofs.Common.{◌≤◌, arith}
 use Rattle.std.proofs.lemmas.Bool.Decides.{nat_tests}
 use Rattle.concrete_modes.specs.Sizes.{cubed_le}
 use Rattle.concrete_modes.proofs.edge.basis.first_square.Goals as goal

@@ -1,6 +1,6 @@
 use Rattle.std.proofs.Common.{◌≡◌, ℕ, ◌*◌, ◌/◌, ◌^◌, ◌≤◌, arith}
 use Rattle.std.proofs.lemmas.Bool.Decides.{nat_tests}
-use Rattle.concrete.specs.Edge.{edge_second, strength_root, distance_root}
+use Rattle.concrete.specs.Edge.{strength_root, distance_root}
 use Rattle.concrete_modes.specs.Sizes.{three_le, four_le}
 use Rattle.concrete_modes.proofs.edge.basis.second_value.Goals as goal
 

@@ -1,4 +1,4 @@
-use Rattle.std.proofs.Common.{◌≡◌, ℕ, ◌+◌, ◌-◌, ◌*◌, ◌≤◌, sym, ap, ◌∙◌, arith}
+use Rattle.std.proofs.Common.{◌≡◌, ℕ, ◌*◌, ◌∙◌, arith}
 use Rattle.roots.specs.Division.{up}
 use Rattle.loadcase.proofs.Validity.{spread_pos}
 use Rattle.loadcase.proofs.Products.{moment_le}
