@@ -1,13 +1,15 @@
 -- A line is understood exactly where it is made as it must be.
-use Rattle.std.proofs.Common.{◌≡◌, ℕ, ◌+◌, ◌<◌, Bool, true, false, cond, eqb, ◌⊎◌, List, [], ◌∷◌, ◌++◌, map, length, get_or, Some, None, codes, decimal, Option, sym, refl, ap, ◌∙◌, inl, inr, ⊎_elim, arith}
-use Rattle.std.specs.List.{range_with_len, AllByRecursion as All}
+use Rattle.std.proofs.Common.{◌≡◌, ℕ, ◌<◌, Bool, true, false, cond, eqb, ◌⊎◌, List, [], ◌∷◌, ◌++◌, map, length, get_or, Some, None, codes, decimal, Option, sym, refl, ap, ◌∙◌, inl, inr, ⊎_elim, arith}
+use Rattle.std.specs.List.{range_with_len, AllByRecursion}
 use Rattle.std.specs.Option.{option_map}
 use Rattle.std.specs.Str.{bytes_eq}
+use Rattle.std.proofs.lemmas.List.Elements.{recursion_from_All}
 use Rattle.std.proofs.lemmas.List.FromFn.{fill_by_all}
 use Rattle.std.proofs.lemmas.Slice.Eq.{bytes_eq-Decides}
 use Rattle.std.proofs.lemmas.Bool.{eq-eqb, eqb-true, cond-true}
 use Rattle.text_pieces.specs.Numerals.{number_in}
-use Rattle.text_pieces.specs.Pieces.{words, after_spaces, spaced, Without}
+use Rattle.text_pieces.specs.Pieces.{words, after_spaces, spaced}
+use Rattle.text_pieces.proofs.Frees.{Free}
 use Rattle.text_pieces.proofs.WordRuns.{some_word, words_of}
 use Rattle.text_pieces.proofs.Written.{decimal_back, free_plain, words_spaced, free_number, plain}
 use Rattle.job_text.specs.Counted.{ahead, numbers_in, exactly}
@@ -45,7 +47,7 @@ length_numbers (w ∷ ws) ns e =
     let (m, ms, a, b, g) = ahead_from (number_in w) (numbers_in ws) ns e in
     omega (arith, length_numbers ws ms b, ap length g)
 
-free_numbers : (ws : List (List ℕ)) (ns : List ℕ) → numbers_in ws ≡ Some ns → All (Without 32) ws
+free_numbers : (ws : List (List ℕ)) (ns : List ℕ) → numbers_in ws ≡ Some ns → AllByRecursion (Free 32) ws
 free_numbers [] ns e = tt
 free_numbers (w ∷ ws) ns e =
     let (m, ms, a, b, g) = ahead_from (number_in w) (numbers_in ws) ns e in
@@ -131,7 +133,7 @@ understood line j s =
     let e : words line ≡ name_of j ∷ ws = ap words s.written ∙ words_spaced (name_of j) ws (free_plain 32 (name_of j) (omega arith) (plain_name j)) (free_numbers ws (numbers_of j) s.numbers) in
     ap said e ∙ called_to ws j s.numbers
 
-decimals_back : (ns : List ℕ) → All (λ n. n < 1000000000) ns → numbers_in (map decimal ns) ≡ Some ns
+decimals_back : (ns : List ℕ) → AllByRecursion (λ n. n < 1000000000) ns → numbers_in (map decimal ns) ≡ Some ns
 decimals_back [] h = refl
 decimals_back (n ∷ ns) (h, t) =
     ap (λ (o : Option ℕ). ahead o (numbers_in (map decimal ns))) (decimal_back n h) ∙ ap (ahead (Some n)) (decimals_back ns t)
@@ -139,4 +141,4 @@ decimals_back (n ∷ ns) (h, t) =
 -- a printed line parses back
 pub printed_back : (j : JobLine) → Small j → job_line (printed j) ≡ Some j
 printed_back j h =
-    understood (printed j) j (record { numerals = map decimal (numbers_of j); numbers = decimals_back (numbers_of j) h; written = refl })
+    understood (printed j) j (record { numerals = map decimal (numbers_of j); numbers = decimals_back (numbers_of j) (recursion_from_All (λ n. n < 1000000000) (numbers_of j) h); written = refl })

@@ -1,6 +1,6 @@
 -- Words that are numbers, of a known count.
 --   ahead n ns        a number before those that follow; none where one of them is missing
---   numbers-in ws     the numbers that all words are; none where one of them is no number of 1 to 9 digits
+--   numbers_in ws     the numbers that all words are; none where one of them is no number of 1 to 9 digits
 --   exactly n ws      the same, where there are n words; none elsewhere
 use Rattle.std.specs.Prelude.{ℕ, cond, List, [], ◌∷◌, length, Some, None, Option, ◌==◌}
 use Rattle.text_pieces.specs.Numerals.{number_in}

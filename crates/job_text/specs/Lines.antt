@@ -1,8 +1,8 @@
 -- What a line of a job says.
---   site-of ns, bolt-of ns     the numbers of a site, or of a bolt, in the order of the line
---   said-by name ws            what a name says with the words after it: `site` and 10 numbers, `place` and 3, `lift`
+--   site_of ns, bolt_of ns     the numbers of a site, or of a bolt, in the order of the line
+--   said_by name ws            what a name says with the words after it: `site` and 10 numbers, `place` and 3, `lift`
 --                              and 1, or `rate` and none
---   job-line line              what a line says; none where it is not understood
+--   job_line line              what a line says; none where it is not understood
 use Rattle.std.specs.Prelude.{ℕ, cond, List, [], ◌∷◌, None, codes, Option, slice_index}
 use Rattle.std.specs.Option.{option_map}
 use Rattle.std.specs.Str.{bytes_eq}

@@ -4,8 +4,7 @@
 --   Says line j       the line is the name, and for each number a space and 1 to 9 digits that write the number
 --   printed j         the line with each number in decimals, without leading zeros
 --   Small j           each number has at most 9 digits
-use Rattle.std.specs.Prelude.{◌≡◌, ℕ, ◌<◌, List, [], ◌∷◌, ◌++◌, map, Some, codes, decimal}
-use Rattle.std.specs.List.{AllByRecursion as All}
+use Rattle.std.specs.Prelude.{All, ◌≡◌, ℕ, ◌<◌, List, [], ◌∷◌, ◌++◌, map, Some, codes, decimal}
 use Rattle.text_pieces.specs.Pieces.{after_spaces}
 use Rattle.job_text.specs.Counted.{numbers_in}
 use Rattle.job_text.specs.declared.line.JobLine.{JobLine}

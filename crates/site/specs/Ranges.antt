@@ -1,11 +1,11 @@
 -- The ranges of a site's numbers. Lengths are in tenths of a millimetre, strengths in N/mm².
 --   between least most n          n lies in the range
 --   flag n                        n is 0 or 1
---   strength-known edition f      cube strength 15 to 75 in edition 1, cylinder strength 12 to 60 in edition 2
---   edge-factor-known p           the factor for the edge's reinforcement is 1.00, 1.20 or 1.40
---   site-in-range e h I n         every number of a site is in range, and the member is at least as thick as the
+--   strength_known edition f      cube strength 15 to 75 in edition 1, cylinder strength 12 to 60 in edition 2
+--   edge_factor_known p           the factor for the edge's reinforcement is 1.00, 1.20 or 1.40
+--   site_in_range e h I n         every number of a site is in range, and the member is at least as thick as the
 --                                 embedment depth h; I is the channel's moment of inertia in mm⁴
---   state-of n                    the concrete is cracked where the number is not 0
+--   state_of n                    the concrete is cracked where the number is not 0
 use Rattle.std.specs.Prelude.{ℕ, Bool, cond, ◌&&◌, ◌||◌, ◌==◌, nat_le}
 use Rattle.certificate.specs.declared.fields.Edition.{Edition}
 use Rattle.certificate.specs.declared.fields.Edition.TheVariants.{First, Second}

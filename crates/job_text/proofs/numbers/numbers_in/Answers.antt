@@ -1,7 +1,7 @@
 use Rattle.std.proofs.Common.{◌≡◌, ℕ, ◌<◌, ◌≤◌, List, length, Option, sym, ap, ◌∙◌, arith, length-set, Bor}
 use lib.ListN.{length-replicate}
 use Rattle.std.specs.Option.{option_map}
-use Rattle.text_pieces.specs.Pieces.{words, words_after}
+use Rattle.text_pieces.specs.Pieces.{words_after}
 use Rattle.job_text.proofs.NumberRuns.{read_none, read_more, read_short, read_long, read_wrong, read_all}
 use Rattle.job_text.proofs.numbers.numbers_in.Goals as goal
 
