@@ -20,7 +20,7 @@ fn digit(letter: u8) -> anyhow::Result<u8> {
 // The bytes that hex digits write.
 fn decoded(heap: Global, digits: &[u8]) -> anyhow::Result<Vec<u8>> {
     let mut bytes = Vec::new(heap);
-    if digits == b"-" {
+    if digits == b"-".as_slice() {
         return Ok(bytes);
     }
     if digits.len() % 2 != 0 {
