@@ -1,7 +1,7 @@
 -- The calls that the lines of a job make, after the site.
 --   calls_of line     those of one line: none for a line that is refused; a rating closes, rates and reopens
 --   script lines      those of all lines
-use Rattle.std.specs.Prelude.{true, List, [], ◌∷◌, ◌++◌, Some, None, Option}
+use Rattle.std.specs.Prelude.{List, [], ◌∷◌, ◌++◌, Some, None, Option}
 use Rattle.history.specs.declared.call.Call.{Call}
 use Rattle.history.specs.declared.call.Call.TheVariants as call
 use Rattle.job_text.specs.declared.line.JobLine.{JobLine}

@@ -1,8 +1,8 @@
 -- The first entry of the tail of a list is an entry of the list.
-use Rattle.std.proofs.Common.{◌≡◌, ℕ, ◌+◌, ◌*◌, ◌/◌, ◌<◌, true, ltb, List, length, get_or, drop, Some, None, Option, sym, ap, ◌∙◌, subst, arith, length-drop, get_or-drop, lt-ltb}
+use Rattle.std.proofs.Common.{◌≡◌, ℕ, ◌+◌, ◌*◌, ◌/◌, ◌<◌, true, ltb, List, length, get_or, drop, Some, None, sym, ap, ◌∙◌, subst, arith, length-drop, get_or-drop, lt-ltb}
 use Rattle.std.proofs.lemmas.Bool.{cond-true}
 use Rattle.certificate.specs.Content.{entry_at}
-use Rattle.certificate.specs.Lookup.{First, at_place}
+use Rattle.certificate.specs.Lookup.{at_place}
 use Rattle.certificate.specs.Strengths.{factor_at}
 use Rattle.certificate.specs.declared.fields.StrengthFactor.{StrengthFactor}
 

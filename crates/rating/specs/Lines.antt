@@ -3,7 +3,7 @@
 --   cone_factor g s, edge_factor g s     the factor k for cracked or uncracked concrete
 --   ChannelSheet                         a sheet of the thirteen modes
 --   IsSheet e g v f ψ t s                each line of the sheet s holds the numbers that its rule names
-use Rattle.std.specs.Prelude.{◌≡◌, ℕ}
+use Rattle.std.specs.Prelude.{ℕ}
 use Rattle.bolts.specs.declared.bolt.Direction.TheVariants.{Tension, Shear}
 use Rattle.certificate.specs.declared.fields.Edition.{Edition}
 use Rattle.certificate.specs.declared.fields.Geometry.{Geometry}

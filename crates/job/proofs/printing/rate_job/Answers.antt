@@ -1,8 +1,6 @@
-use Rattle.std.proofs.Common.{◌≡◌, ℕ, List, [], ◌∷◌, map, IfOk, Ok, Err, Result, String, refl, inl}
+use Rattle.std.proofs.Common.{ℕ, List, [], ◌∷◌, IfOk, Ok, Err, Result, String, refl, inl}
 use Rattle.std.specs.declared.alloc.AllocError.{AllocError}
 use Rattle.std.specs.declared.alloc.Global.{Global}
-use Rattle.text_pieces.specs.Pieces.{lines}
-use Rattle.job_text.specs.Lines.{job_line}
 use Rattle.job.specs.Jobs.{Ran, PrintsFault, Printed}
 use Rattle.job.specs.declared.fault.JobFault.{JobFault}
 use Rattle.job.specs.declared.fault.JobFault.TheVariants as fault

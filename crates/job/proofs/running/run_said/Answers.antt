@@ -1,4 +1,3 @@
-use Rattle.std.proofs.Common.{◌≡◌}
 use Rattle.std.proofs.lemmas.Result.{err_from_is_err_and}
 use Rattle.job.proofs.Begins.{stopped, went}
 use Rattle.job.proofs.running.run_said.Goals as goal

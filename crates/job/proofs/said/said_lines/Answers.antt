@@ -1,4 +1,3 @@
-use Rattle.text_pieces.specs.Pieces.{lines}
 use Rattle.job_text.specs.Lines.{job_line}
 use Rattle.std.proofs.Common.{[], ◌∷◌, ◌++◌, vec_items, ap, ◌∙◌}
 use Rattle.job.proofs.Scripting.{said_more}

@@ -8,7 +8,7 @@ use Rattle.certificate.specs.declared.fields.Geometry.{Geometry}
 use Rattle.certificate.specs.declared.fields.CharacteristicValues.{CharacteristicValues}
 use Rattle.certificate.specs.declared.fields.PartialFactors.{PartialFactors}
 use Rattle.rating.specs.Lines.{IsSheet}
-use Rattle.rating.specs.Sheets.{geometry_in, values_in, factors_in}
+use Rattle.rating.specs.Sheets.{geometry_in, values_in}
 use Rattle.rating.proofs.prepared.preparing.prepared_on.Goals as goal
 
 -- an opening whose numbers are in range is

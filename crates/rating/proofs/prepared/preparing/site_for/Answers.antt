@@ -1,14 +1,14 @@
-use Rattle.std.proofs.Common.{◌≡◌, ℕ, Bool, true, false, cond, List, Ok, Err, Result, sym, refl, ap, ◌∙◌, arith}
+use Rattle.std.proofs.Common.{◌≡◌, ℕ, Bool, true, false, cond, List, Ok, Err, Result, sym, ap, ◌∙◌, arith}
 use Rattle.bolts.specs.declared.refusal.Refusal.{Refusal}
 use Rattle.bolts.specs.declared.refusal.Refusal.TheVariants.{Opening}
 use Rattle.certificate.specs.Content.{edition_of}
 use Rattle.certificate.specs.declared.fields.Edition.{Edition}
 use Rattle.certificate.specs.declared.fields.Geometry.{Geometry}
 use Rattle.site.specs.Ranges.{site_in_range}
-use Rattle.site.specs.Sites.{numbers_of, read_as}
+use Rattle.site.specs.Sites.{read_as}
 use Rattle.site.specs.declared.numbers.SiteNumbers.{SiteNumbers}
 use Rattle.site.specs.declared.site.Site.{Site}
-use Rattle.rating.specs.Sheets.{geometry_in, in_range, SiteFor}
+use Rattle.rating.specs.Sheets.{in_range, SiteFor}
 use Rattle.rating.proofs.prepared.preparing.site_for.Goals as goal
 
 -- what the check's answer says
