@@ -1,7 +1,6 @@
 // What a line says: a name, and after it one number or two.
-ghost use Rattle.std.specs.Prelude.{◌≡◌};
-ghost use Rattle.std.specs.Option.{option_map};
-ghost use Rattle.text_pieces.specs.Pieces.{words, words_after};
+ghost use Rattle.std.specs.Prelude.{◌≡◌, [], MatchOption};
+ghost use Rattle.text_pieces.specs.Pieces.{words};
 ghost use Rattle.certificate_text.specs.Lines.{after_name, bounded, one_number, two_numbers, entry_line};
 
 use certificate::fields::StrengthFactor;
@@ -12,7 +11,7 @@ const MOST: u32 = 65_535;
 
 // What follows the name and a space; none where the line begins otherwise.
 fn after_name<'a>(line: &'a [u8], name: &str) -> Option<&'a [u8]>
-    ensures { words_after (option_map (λ x. x.now) result) ≡ after_name name.now (words line.now) }
+    ensures { MatchOption result (after_name name.now (words line.now) ≡ []) (λ rest. after_name name.now (words line.now) ≡ words rest.now) }
 {
     let cut = cut_word(line);
     if cut.word == name.as_bytes() {

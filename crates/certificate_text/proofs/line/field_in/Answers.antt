@@ -5,4 +5,4 @@ use Rattle.certificate_text.proofs.line.field_in.Goals as goal
 
 pub returns : goal.returns
 returns c =
-    c.bounded_in.ensures ∙ sym (one_word c.args.most c.in_ok-word.word.now) ∙ ap (one_number c.args.most) c.in_ok-word.ensures
+    c.bounded_in.ensures ∙ sym (ap (one_number c.args.most) c.in_ok-word.ensures ∙ one_word c.args.most c.in_ok-word.word.now)
