@@ -5,7 +5,7 @@ ghost use Rattle.concrete_modes.specs.Cones.{cone_well};
 ghost use Rattle.concrete_modes.specs.Edges.{well_of};
 ghost use Rattle.rating.specs.Lines.{cone_factor, edge_factor, IsSheet};
 
-use crate::concrete::{cone_line, edge_line};
+use crate::concrete_lines::{cone_line, edge_line};
 use crate::edition::ByEdition;
 use crate::steel::{anchor_steel, bolt_steel, flexure, lip, pull_out};
 use bolts::bolt::Direction;

@@ -5,7 +5,7 @@
 #![tactic(auto)]
 
 pub mod channel;
-mod concrete;
+mod concrete_lines;
 pub mod edition;
 pub mod fault;
 pub mod prepared;
