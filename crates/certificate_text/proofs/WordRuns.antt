@@ -2,7 +2,7 @@
 use Rattle.std.proofs.Common.{◌≡◌, ℕ, ◌≤◌, Bool, true, false, cond, leb, List, [], ◌∷◌, Some, None, Option, sym, refl, ap, ◌∙◌, ⊎_elim, arith}
 use Rattle.std.specs.Str.{bytes_eq}
 use Rattle.std.proofs.lemmas.Slice.Eq.{bytes_eq-Decides}
-use Rattle.std.proofs.lemmas.Bool.{leb-true, cond-true}
+use Rattle.std.proofs.lemmas.Bool.{leb-true, cond-true, cond-false, cases_Bool}
 use Rattle.text_pieces.specs.Pieces.{words}
 use Rattle.text_pieces.proofs.WordRuns.{Parted, splits, no_number}
 use Rattle.certificate_text.specs.Lines.{after_name, at_most, bounded, one_number, two_numbers, both}
@@ -39,6 +39,14 @@ other_at false ws h = refl
 
 pub other_name : (name w : List ℕ) (ws : List (List ℕ)) → (w ≡ name → ⊥) → after_name name (w ∷ ws) ≡ []
 other_name name w ws h = other_at (bytes_eq w name) ws (λ t. h ((bytes_eq-Decides w name).0 t))
+
+-- no word follows a line's only word
+pub no_more : (name w : List ℕ) → after_name name (w ∷ []) ≡ []
+no_more name w =
+    ⊎_elim
+    (λ (t : bytes_eq w name ≡ true). cond-true _ _ _ t)
+    (λ (f : bytes_eq w name ≡ false). cond-false _ _ _ f)
+    (cases_Bool (bytes_eq w name))
 
 some_same : (m n : ℕ) → ◌≡◌ {A = Option ℕ} (Some m) (Some n) → m ≡ n
 some_same m n e = cc

@@ -2,8 +2,8 @@
 -- tenths (10 for the cone itself), partial factor γ in hundredths.
 --   cone_square k f h m      ten times the square of the basic value, in hundredths of a newton
 --   cone_value k f h m       the greatest whole number whose square fits
---   cone-resistance          the value over the partial factor, down, in mN
---   cone_spacing h           the characteristic spacing in µm; cone-edge h half of it, up
+--   cone_resistance          the value over the partial factor, down, in mN
+--   cone_spacing h           the characteristic spacing in µm; cone_edge h half of it, up
 use Rattle.std.specs.Prelude.{ℕ, ◌-◌, ◌*◌, ◌/◌, ◌<◌, max}
 use Rattle.fractions.specs.Fractions.{Fraction, PowerAtMost, PowerAtLeast, over, times}
 use Rattle.roots.specs.Division.{up}

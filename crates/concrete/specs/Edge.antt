@@ -2,7 +2,7 @@
 -- factor γ in hundredths. Values in mN.
 --   edge_second k f c      by the second edition: k·√f·c^(4/3)
 --   edge_first k f c       by the first edition: k·√f·c^(3/2)
---   edge-resistance x p γ  the value times p over the partial factor, down
+--   edge_resistance x p γ  the value times p over the partial factor, down
 use Rattle.std.specs.Prelude.{ℕ, ◌*◌, ◌/◌, ◌^◌}
 use Rattle.std.proofs.Common.{lit<}
 use Rattle.fractions.specs.Fractions.{Fraction, PowerAtMost, PowerAtLeast, whole, over, times}

@@ -4,7 +4,7 @@
 --   characteristic_fits b         25,000 to 2,500,000 µm
 --   in_range a b                  both
 --   raised a                      the allowance with one reduction more, at most 2,000
---   straight_reduced a b r        r times A/B;   root-reduced a b r: r times the root of A/B, in millionths down
+--   straight_reduced a b r        r times A/B;   root_reduced a b r: r times the root of A/B, in millionths down
 --   LowRoot x, HighRoot x         the low and the high ends of brackets of the square root of x
 --   Times F R                     the readings R, each times each of F
 --   reduced n L H x m             the mode m with its resistance reduced: the number is n a b r, and its readings are

@@ -1,5 +1,6 @@
 -- What the lines of a channel's sheet mean.
---   cone_of m c, edge-of m c        the meaning of a cone, and of an edge by either edition
+--   cone_of m c                     the meaning of a cone
+--   first_edge_of, second_edge_of   of an edge by either edition
 --   cone_line_of, edge_line_of      with all of their reductions
 --   channel_lines s c               the meanings of the thirteen lines for the case c
 use Rattle.std.specs.Prelude.{List, [], ◌∷◌}

@@ -1,4 +1,4 @@
--- The greatest and the least number with a property: there is one at most, and greatest-of and least-of find it.
+-- The greatest and the least number with a property: there is one at most, and greatest_of and least_of find it.
 use Rattle.std.proofs.Common.{◌≡◌, ℕ, zero, suc, ◌+◌, ◌^◌, ◌<◌, ◌≤◌, Bool, true, false, not, T, leb, refl, le_trans, le_antisymm, arith, le→leb, leb→le, T_not}
 use lib.Dec.{not_T}
 use Rattle.roots.specs.Extremes.{Greatest, Least, by_bits, greatest_of, least_of}

@@ -1,5 +1,5 @@
 -- The lips of the channel at each bolt.
---   proper-lip f s o        the lower number of the fraction is not 0
+--   proper_lip f s o        the lower number of the fraction is not 0
 --   lip_meaning d v f s c   v N over f, shared below the spacing s
 use Rattle.std.specs.Prelude.{◌≡◌, ℕ, ◌*◌, ◌<◌, Bool, true, false, cond, Some, None, Option, nat_lt, refl}
 use Rattle.std.proofs.Common.{mul-pos, arith, ltb-true}

@@ -1,7 +1,7 @@
 -- What is made of numbers in range.
 --   Made t P answer       something with P exactly where t is true
 --   factor_well f         1.00 to 3.00, in hundredths
---   value_well v          1,000 to 500,000 N;   value-or-none v: that, or 0
+--   value_well v          1,000 to 500,000 N;   value_or_none v: that, or 0
 --   strength_well s       0.20 to 4.00, in hundredths
 --   bending_well v        100 to 10,000 newton-metres
 --   spacing_well s        200 to 3,000 tenths

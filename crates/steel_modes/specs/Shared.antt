@@ -1,6 +1,6 @@
 -- The resistance of the lips: the value over the factor, times (spacing + distance) over twice the spacing where the
 -- nearest other bolt lies nearer than the spacing.
---   lip-above v s o, lip-below f s o    the two numbers of the fraction, o the distance to the nearest other bolt
+--   lip_above v s o, lip_below f s o    the two numbers of the fraction, o the distance to the nearest other bolt
 --   lip_down v f s o                    the fraction, down
 use Rattle.std.specs.Prelude.{ℕ, ◌+◌, ◌*◌, ◌/◌, cond, Some, None, Option, nat_lt}
 use Rattle.steel_modes.specs.declared.design.PartialFactor.{PartialFactor}

@@ -5,7 +5,7 @@
 --   part_above s a b        the load of b, times the smaller offset, times the span less the greater; 0 over an anchor
 --   part_below s            the span times 1,000,000
 --   part_up, part_read      what b adds to the moment at a: the quotient, up, and exactly
---   moment_at c i           the moment at the i-th bolt;   moment-read c i: exactly
+--   moment_at c i           the moment at the i-th bolt;   moment_read c i: exactly
 use Rattle.std.specs.Prelude.{ℕ, ◌+◌, ◌-◌, ◌*◌, ◌/◌, ◌%◌, min, Bool, cond, map, sum_by, ◌==◌}
 use Rattle.fractions.specs.Fractions.{Fraction, whole, total}
 use Rattle.bolts.specs.Bolts.{bolt_at}
