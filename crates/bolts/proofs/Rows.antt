@@ -1,10 +1,12 @@
 -- Bolts in rising position: any two of them, and where a position belongs among them.
-use Rattle.std.proofs.Common.{◌≡◌, ℕ, zero, suc, ◌+◌, ◌<◌, ◌≤◌, true, not, eqb, ◌⊎◌, List, length, take, drop, Decides, refl, ⊎_elim, add-one, arith, length-drop, length-take}
+use Rattle.std.proofs.Common.{◌≡◌, ℕ, zero, suc, ◌+◌, ◌<◌, ◌≤◌, true, not, eqb, ◌⊎◌, List, length, take, drop, Decides, refl, ⊎_elim, le_refl, add-one, arith, length-drop, length-take}
 use Rattle.std.specs.List.{AllByRecursion}
+use Rattle.std.specs.List.Sorted.{IsNonDecreasingBy}
 use Rattle.std.proofs.lemmas.Bool.{cases_lt}
 use Rattle.std.proofs.lemmas.Bool.Decides.{nat_tests}
 use Rattle.std.proofs.ByRecursion.{Decides-by_and, All-get_or, All-from_get_or}
 use Rattle.std.proofs.lemmas.List.{get_or-take, get_or-drop}
+use Rattle.std.proofs.lemmas.List.Sorted.{IsNonDecreasingBy-from_default}
 use Rattle.bolts.specs.Bolts.{no_bolt, bolt_at, position_at, Spaced, apart, clear, bare}
 use Rattle.bolts.specs.declared.bolt.Bolt.{Bolt}
 
@@ -14,6 +16,11 @@ pairs xs s i zero h l = absurd (omega arith)
 pairs xs s i (suc j) h l =
     let next : position_at xs j + 300 ≤ position_at xs (suc j) = rw add-one at (s j (omega arith)) in
     ⊎_elim (λ lt. let far = pairs xs s i j lt (omega arith) in omega arith) (λ ge. let e : i ≡ j = omega arith in rw e next) (cases_lt i j)
+
+pub rising : (xs : List Bolt) → Spaced xs → IsNonDecreasingBy (λ b. b.position) xs
+rising xs s =
+    IsNonDecreasingBy-from_default (λ b. b.position) xs no_bolt (λ i j le h.
+    ⊎_elim (λ lt. let far = pairs xs s i j lt h in omega arith) (λ ge. let e : i ≡ j = omega arith in rw e (le_refl _)) (cases_lt i j))
 
 -- what holds of the front and the back, by places
 pub front_by : (q : Bolt → Type 0) (xs : List Bolt) (i : ℕ) → i ≤ length xs → ((k : ℕ) → k < i → q (bolt_at xs k)) → AllByRecursion q (take i xs)
