@@ -9,6 +9,7 @@ ghost use Rattle.forces.specs.Exact.{length_of};
 ghost use Rattle.loadcase.specs.Opened.{Opened};
 ghost use Rattle.loadcase.specs.Held.{opening_of, bolts_of};
 
+use crate::anchor::MOST_ANCHORS;
 use crate::open::OpenCase;
 use bolts::bolt::Bolt;
 use bolts::fault::Fault;
@@ -19,8 +20,6 @@ use influence::Channel;
 use std::alloc::Global;
 
 const LEAST_ANCHORS: u32 = 2;
-
-const MOST_ANCHORS: u32 = 12;
 
 impl OpenCase {
     // A case with no bolt. Refused where a number is out of range; else only memory can be wanting.

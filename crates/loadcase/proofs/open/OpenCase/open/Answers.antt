@@ -21,4 +21,4 @@ pub returns-in_err-table : goal.returns-in_err-table
 returns-in_err-table c =
     let most : c.args.opening.anchors - 1 ≤ 11 = grind (arith, common_steps) in
     by_memory c.args.opening _ _ c.from_residual-in_err-table.result (grind (arith, common_steps))
-    (omega (arith, mul-le-mul most c.in_ok-channel.channel.narrow)) c.in_err-table.ensures c.from_residual-in_err-table.ensures
+    (omega (arith, mul-le-mul most c.in_ok-channel.channel.in_range.narrow)) c.in_err-table.ensures c.from_residual-in_err-table.ensures
