@@ -1,8 +1,8 @@
 -- The nearest other bolt is a neighbour.
-use Rattle.std.proofs.Common.{◌≡◌, ℕ, ◌+◌, ◌-◌, ◌<◌, ◌≤◌, ◌⊎◌, List, length, ap, ◌∙◌, ⊎_elim, arith}
+use Rattle.std.proofs.Common.{◌≡◌, ℕ, ◌+◌, ◌-◌, ◌<◌, ◌≤◌, List, length, min, Option, Some, None, MatchOption, ap, ⊎_elim, arith}
 use Rattle.std.proofs.lemmas.Bool.{cases_lt}
 use Rattle.bolts.specs.Bolts.{position_at, Spaced}
-use Rattle.bolts.specs.Neighbours.{distance, Other, NearestAt}
+use Rattle.bolts.specs.Neighbours.{distance, Other, IsGap, Nearest, NearestAt}
 use Rattle.bolts.specs.declared.bolt.Bolt.{Bolt}
 use Rattle.bolts.proofs.Rows.{pairs}
 
@@ -41,28 +41,35 @@ module _ (xs : List Bolt) (s : Spaced xs) (k d : ℕ) (in' : k < length xs) wher
   after : k + 1 < length xs → position_at xs k + d ≡ position_at xs (k + 1) → (i : ℕ) × Other xs k i × (distance xs i k ≡ d)
   after l h = (k + 1, (l, λ q. omega arith), omega arith)
 
--- the gap between two neighbours
-abbrev pub Gap : List Bolt → ℕ → ℕ → Type 0
-Gap xs j d = position_at xs j + d ≡ position_at xs (j + 1)
+module _ (xs : List Bolt) (s : Spaced xs) (k : ℕ) where
+  -- the distance from the bolt before the k-th, and none where there is no such bolt; that to the next likewise
+  abbrev pub GapBefore : Option ℕ → Type 0
+  GapBefore o = MatchOption o (1 ≤ k → length xs ≤ k) (λ d. (1 ≤ k) × IsGap xs (k - 1) d)
 
-gap_to : (xs : List Bolt) (j k d : ℕ) → j + 1 ≡ k → Gap xs j d → position_at xs j + d ≡ position_at xs k
-gap_to xs j k d e h = h ∙ ap (position_at xs) e
+  abbrev pub GapAfter : Option ℕ → Type 0
+  GapAfter o = MatchOption o (length xs ≤ k + 1) (IsGap xs k)
 
-same_place : (xs : List Bolt) (i j k : ℕ) → j + 1 ≡ k → i + 1 ≡ k → position_at xs i ≡ position_at xs j
-same_place xs i j k e f = let q : i ≡ j = omega arith in ap (position_at xs) q
+  same_place : (j : ℕ) → j + 1 ≡ k → position_at xs (k - 1) ≡ position_at xs j
+  same_place j e = let q : k - 1 ≡ j = omega arith in ap (position_at xs) q
 
-pub nearest_first : (xs : List Bolt) → Spaced xs → (k d : ℕ) → k ≡ 0 → 1 < length xs → Gap xs 0 d → NearestAt xs k d
-nearest_first xs s k d e l h =
-    let g : Gap xs k d = rw e h in
-    by_neighbours xs s k d (omega arith) (λ j q. absurd (omega arith)) (λ _. omega arith) (after xs s k d (omega arith) (omega arith) g)
+  here : 1 ≤ k → position_at xs ((k - 1) + 1) ≡ position_at xs k
+  here p = let q : (k - 1) + 1 ≡ k = omega arith in ap (position_at xs) q
 
-pub nearest_last : (xs : List Bolt) → Spaced xs → (k d j : ℕ) → j + 1 ≡ k → k + 1 ≡ length xs → Gap xs j d → NearestAt xs k d
-nearest_last xs s k d j e l h =
-    let g = gap_to xs j k d e h in
-    by_neighbours xs s k d (omega arith) (λ i q. omega (arith, same_place xs i j k e q)) (λ m. absurd (omega arith)) (before xs s k d (omega arith) j e g)
+  pub nearest_of_both : (b a : ℕ) → GapBefore (Some b) → GapAfter (Some a) → NearestAt xs k (min b a)
+  nearest_of_both b a (p, (_, h)) (l, g) =
+      by_neighbours xs s k (min b a) (omega arith) (λ j e. omega (arith, same_place j e, here p)) (λ _. omega arith)
+      (⊎_elim
+      (λ (lt : b < a). before xs s k (min b a) (omega arith) (k - 1) (omega arith) (omega (arith, here p)))
+      (λ (ge : a ≤ b). after xs s k (min b a) (omega arith) l (omega arith))
+      (cases_lt b a))
 
-pub nearest_between : (xs : List Bolt) → Spaced xs → (k d j a b : ℕ) → j + 1 ≡ k → k + 1 < length xs → Gap xs j a → Gap xs k b → d ≤ a → d ≤ b → (d ≡ a) ⊎ (d ≡ b) → NearestAt xs k d
-nearest_between xs s k d j a b e l h g da db w =
-    let p = gap_to xs j k a e h in
-    by_neighbours xs s k d (omega arith) (λ i q. omega (arith, same_place xs i j k e q)) (λ _. omega arith)
-    (⊎_elim (λ u. before xs s k d (omega arith) j e (omega arith)) (λ u. after xs s k d (omega arith) l (omega arith)) w)
+  pub nearest_of_before : (b : ℕ) → GapBefore (Some b) → GapAfter None → NearestAt xs k b
+  nearest_of_before b (p, (l, h)) last =
+      by_neighbours xs s k b (omega arith) (λ j e. omega (arith, same_place j e, here p)) (λ m. absurd (omega arith))
+      (before xs s k b (omega arith) (k - 1) (omega arith) (omega (arith, here p)))
+
+  pub nearest_of_after : (a : Option ℕ) → GapBefore None → GapAfter a → Nearest xs k a
+  nearest_of_after (Some a) first g =
+      by_neighbours xs s k a (omega arith) (λ j e. let past = first (omega arith) in absurd (omega arith)) (λ _. omega arith) (after xs s k a (omega arith) g.0 g.1)
+  nearest_of_after None first last = λ h.
+      ⊎_elim (λ p. let past = first p in absurd (omega arith)) (λ z. omega arith) (cases_lt 0 k)

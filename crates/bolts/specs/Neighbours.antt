@@ -1,5 +1,6 @@
 -- How far a bolt lies from the nearest other one.
 --   distance xs j k        the distance between two bolts of a list, in tenths
+--   IsGap xs k d           there is a next bolt after the k-th, and it lies d tenths on
 --   Nearest xs k answer    some other bolt lies at the distance answered from the k-th, and none lies nearer; no
 --                          distance is answered exactly where there is no k-th bolt, or it is the only one
 use Rattle.std.specs.Prelude.{◌≡◌, ℕ, ◌+◌, ◌-◌, ◌<◌, ◌≤◌, List, length, Some, None, Option, ◌≢◌}
@@ -9,6 +10,9 @@ use Rattle.bolts.specs.declared.bolt.Bolt.{Bolt}
 -- one of the two differences is 0
 abbrev pub distance : List Bolt → ℕ → ℕ → ℕ
 distance xs j k = (position_at xs j - position_at xs k) + (position_at xs k - position_at xs j)
+
+abbrev pub IsGap : List Bolt → ℕ → ℕ → Type 0
+IsGap xs k d = (k + 1 < length xs) × (position_at xs k + d ≡ position_at xs (k + 1))
 
 -- the j-th bolt is another than the k-th
 abbrev pub Other : List Bolt → ℕ → ℕ → Type 0

@@ -1,6 +1,9 @@
 // One bolt, and its load in a direction.
 ghost use Rattle.std.specs.Prelude.{◌≡◌};
-ghost use Rattle.bolts.specs.Loads.{load_of};
+ghost use Rattle.bolts.specs.Loads.{load_of, loaded};
+
+// The most that a bolt bears in a direction, in N.
+const MOST_LOAD: u32 = 200_000;
 
 // The direction of a load: away from the concrete, or along its face.
 #[derive(Clone, Copy, Debug, PartialEq, Eq)]
@@ -25,5 +28,12 @@ impl Bolt {
             Direction::Tension => self.tension,
             Direction::Shear => self.shear,
         }
+    }
+
+    // Whether both loads are in range, and not both 0.
+    pub(crate) fn is_loaded(self) -> bool
+        ensures { result ≡ loaded self }
+    {
+        self.tension <= MOST_LOAD && self.shear <= MOST_LOAD && (self.tension > 0 || self.shear > 0)
     }
 }

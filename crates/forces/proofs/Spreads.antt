@@ -32,6 +32,10 @@ pub length-distances : (n s p : ℕ) → length (distances n s p) ≡ n
 length-distances zero s p = refl
 length-distances (suc k) s p = rw (length-distances k s p)
 
+pub spread_most : (most L n s p : ℕ) → L ≤ most → spread L (distances n s p) ≤ n * most
+spread_most most L zero s p h = omega arith
+spread_most most L (suc k) s p h = omega (arith, spread_most most L k s p h)
+
 -- the two anchors about a place give the whole length
 pub spread_large : (k s p L : ℕ) → p ≤ k * s → s ≤ L → L ≤ spread L (distances (suc k) s p)
 spread_large zero s p L h sl = omega arith

@@ -14,6 +14,11 @@ counting_more n = sym (map-id (range_with_len 0 (n + 1))) ∙ map-range_with_len
 pub sum_by_counting : (f : ℕ → ℕ) (n : ℕ) → sum_by f (range_with_len 0 (suc n)) ≡ sum_by f (range_with_len 0 n) + f n
 sum_by_counting f n = ap (λ (m : ℕ). sum_by f (range_with_len 0 m)) (sym (add-one n)) ∙ ap (sum_by f) (counting_more n) ∙ sum_by_push f (range_with_len 0 n) n
 
+-- the spread as a sum over the anchors
+pub spread_sum : (L n s p : ℕ) → sum_by (λ k. L - gap p (k * s)) (range_with_len 0 n) ≡ spread L (distances n s p)
+spread_sum L zero s p = refl
+spread_sum L (suc k) s p = omega (arith, sum_by_counting (λ j. L - gap p (j * s)) k, spread_sum L k s p)
+
 pub sum_by-plus : {X : Type 0} (f g : X → ℕ) (xs : List X) → sum_by (λ x. f x + g x) xs ≡ sum_by f xs + sum_by g xs
 sum_by-plus f g [] = refl
 sum_by-plus f g (x ∷ xs) =

@@ -4,3 +4,4 @@
 #![tactic(auto)]
 
 pub mod opening;
+pub mod units;

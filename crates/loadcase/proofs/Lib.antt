@@ -1,2 +1,1 @@
 pub mod Validity
-mod Products

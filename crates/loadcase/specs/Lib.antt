@@ -1,3 +1,4 @@
 pub mod Opened
 pub mod Held
+pub mod Reckoned
 pub mod Closed

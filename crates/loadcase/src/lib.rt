@@ -4,5 +4,6 @@
 // one and hardly above it. Open and closed case are two types, so that the build refuses a call out of turn.
 #![tactic(auto)]
 
+mod anchor;
 pub mod closed;
 pub mod open;

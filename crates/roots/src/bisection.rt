@@ -1,49 +1,41 @@
-// The greatest number with a property that holds up to some number, found by halving.
-ghost use Rattle.std.specs.Prelude.{◌≡◌, ℕ, ◌+◌, ◌-◌, ◌*◌, ◌/◌, ◌^◌, ◌<◌, ◌≤◌, Bool, T};
+// The greatest number whose power is at most a number, found by halving.
+ghost use Rattle.std.specs.Prelude.{◌≡◌, ℕ, ◌+◌, ◌-◌, ◌*◌, ◌/◌, ◌^◌, ◌<◌, ◌≤◌, nat_le};
 ghost use Rattle.roots.specs.Extremes.{Greatest, greatest_of};
 
-// A property of numbers that holds up to some number, and from there on does not.
-pub(crate) trait HoldsUpTo {
-    // The property.
-    ghost holds: { Self → ℕ → Type 0 };
+// A power of numbers, scaled or rounded on its way: it starts at 0, never falls, and grows past every u64.
+pub(crate) trait Power {
+    // The power of two to this many is past every u64.
+    const BITS: u32;
 
-    // The property as a test.
-    ghost passes: { Self → ℕ → Bool };
+    ghost BITS: { ℕ };
 
-    // The property fails at two to this power.
-    ghost bits: { Self → ℕ };
+    ghost power: { Self → ℕ → ℕ };
 
-    // A number at which the property fails.
-    fn limit(&self) -> u64
-        ensures { result ≡ 2 ^ bits self.now };
+    // The power of a number.
+    fn of(&self, n: u64) -> u128
+        requires { n < 2 ^ BITS }
+        ensures { result ≡ power self.now n };
 
-    // Whether the number has the property.
-    fn test(&self, n: u64) -> bool
-        requires { n < 2 ^ bits self.now }
-        ensures { result ≡ passes self.now n };
+    ghost few: { BITS < 64 };
 
-    ghost falls: { (x : Self) (m n : ℕ) → m ≤ n → holds x n → holds x m };
+    ghost rises: { (x : Self) (m n : ℕ) → m ≤ n → power x m ≤ power x n };
 
-    ghost tells: { (x : Self) (n : ℕ) → T (passes x n) → holds x n };
+    ghost starts: { (x : Self) → power x 0 ≡ 0 };
 
-    ghost told: { (x : Self) (n : ℕ) → holds x n → T (passes x n) };
-
-    ghost starts: { (x : Self) → holds x 0 };
-
-    ghost ends: { (x : Self) → holds x (2 ^ bits x) → ⊥ };
+    ghost ends: { (x : Self) → 2 ^ 64 ≤ power x (2 ^ BITS) };
 }
 
-// The greatest number with the property.
-pub(crate) fn greatest<P: HoldsUpTo>(property: &P) -> u64
-    ensures is { Greatest (P.HoldsUpTo.holds property.now) result }
-    ensures value { result ≡ greatest_of (P.HoldsUpTo.bits property.now) (P.HoldsUpTo.passes property.now) }
-    ensures within { result < 2 ^ P.HoldsUpTo.bits property.now }
+// The greatest number whose power is at most `x`.
+pub(crate) fn root<P: Power>(power: &P, x: u64) -> u64
+    ensures is { Greatest (λ n. P.power power.now n ≤ x) result }
+    ensures value { result ≡ greatest_of P.BITS (λ n. nat_le (P.power power.now n) x) }
+    ensures within { result < 2 ^ P.BITS }
 {
     let mut low: u64 = 0;
-    let mut high: u64 = property.limit();
+    let mut high: u64 = 1 << P::BITS;
     while high - low > 1 {
         let mid = low + (high - low) / 2;
-        if property.test(mid) {
+        if power.of(mid) <= u128::from(x) {
             low = mid;
         } else {
             high = mid;

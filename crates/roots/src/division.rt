@@ -3,7 +3,7 @@ ghost use Rattle.std.specs.Prelude.{◌≡◌, ℕ, ◌+◌, ◌-◌, ◌*◌, �
 ghost use Rattle.roots.specs.Division.{up};
 ghost use Rattle.roots.specs.Extremes.{Least};
 
-// A number to divide by: not 0.
+// A number to divide by: not 0. Not std's NonZeroU64: a caller that has proved its number above 0 writes the literal.
 #[derive(Clone, Copy)]
 pub struct Divisor {
     pub number: u64,
@@ -29,14 +29,5 @@ pub fn div_up(a: u64, by: Divisor) -> u64
     ensures value { result ≡ up a by.number }
     ensures within { result ≤ a }
 {
-    quotient_up(a, by)
-}
-
-// The number whose product with the divisor is the first to reach `a`.
-fn quotient_up(a: u64, by: Divisor) -> u64
-    ensures covers { a ≤ result * by.number }
-    ensures near { result * by.number < a + by.number }
-{
-    let down = a / by.number;
-    if a % by.number == 0 { down } else { down + 1 }
+    a.div_ceil(by.number)
 }

@@ -1,114 +1,85 @@
-// The properties that the roots are searched with: a power, scaled or rounded on its way, is at most a number.
-ghost use Rattle.std.specs.Prelude.{◌≡◌, ℕ, ◌+◌, ◌*◌, ◌/◌, ◌^◌, ◌<◌, ◌≤◌, nat_le};
+// The powers that the roots are taken of.
+ghost use Rattle.std.specs.Prelude.{◌≡◌, ℕ, ◌+◌, ◌*◌, ◌/◌, ◌^◌, ◌<◌, ◌≤◌};
 ghost use Rattle.roots.specs.Roots.{fourth};
-ghost use Rattle.std.proofs.Common.{le_trans, rules, arith};
+ghost use Rattle.std.proofs.Common.{rules};
 ghost use Rattle.roots.specs.Rises.{scaled_square_rises, cube_rises, fifth_rises};
 
-use crate::bisection::HoldsUpTo;
+use crate::bisection::Power;
 
-// The numbers whose square times `by` is at most `of`.
+// A number's square times `by`.
 #[derive(Clone, Copy)]
 pub(crate) struct ScaledSquare {
-    pub of: u64,
     pub by: u64,
-    ghost held: { of < 2 ^ 64 },
     ghost some: { 0 < by },
     ghost small: { by < 2 ^ 32 },
 }
 
-impl HoldsUpTo for ScaledSquare {
-    ghost holds = { λ x n. n * n * x.by ≤ x.of };
+impl Power for ScaledSquare {
+    const BITS: u32 = 32;
 
-    ghost passes = { λ x n. nat_le (n * n * x.by) x.of };
+    ghost BITS = { 32 };
 
-    ghost bits = { λ _. 32 };
+    ghost power = { λ x n. n * n * x.by };
 
-    ghost falls = { λ x m n h f. le_trans (scaled_square_rises x.by m n h) f };
+    ghost few = { Prim.search rules };
 
-    ghost tells = { first_of (Prim.search rules, Prim.grind (arith, Self.row.coded.inj)) };
+    ghost rises = { λ x. scaled_square_rises x.by };
 
-    ghost told = { first_of (Prim.search rules, Prim.grind (arith, Self.row.coded.inj)) };
+    ghost starts = { Prim.search rules };
 
-    ghost starts = { first_of (Prim.search rules, Prim.grind (arith, Self.row.coded.inj)) };
+    ghost ends = { Prim.search rules };
 
-    ghost ends = { first_of (Prim.search rules, Prim.grind (arith, Self.row.coded.inj)) };
-
-    fn limit(&self) -> u64 {
-        0x1_0000_0000
-    }
-
-    fn test(&self, n: u64) -> bool {
-        let scaled = (n * n) as u128 * self.by as u128;
-        scaled <= self.of as u128
+    fn of(&self, n: u64) -> u128 {
+        u128::from(n * n) * u128::from(self.by)
     }
 }
 
-// The numbers whose cube is at most `of`.
+// A number's cube.
 #[derive(Clone, Copy)]
-pub(crate) struct Cube {
-    pub of: u64,
-    ghost held: { of < 2 ^ 64 },
-}
+pub(crate) struct Cube;
 
-impl HoldsUpTo for Cube {
-    ghost holds = { λ x n. n * n * n ≤ x.of };
+impl Power for Cube {
+    const BITS: u32 = 22;
 
-    ghost passes = { λ x n. nat_le (n * n * n) x.of };
+    ghost BITS = { 22 };
 
-    ghost bits = { λ _. 22 };
+    ghost power = { λ _ n. n * n * n };
 
-    ghost falls = { λ x m n h f. le_trans (cube_rises m n h) f };
+    ghost few = { Prim.search rules };
 
-    ghost tells = { first_of (Prim.search rules, Prim.grind (arith, Self.row.coded.inj)) };
+    ghost rises = { λ _. cube_rises };
 
-    ghost told = { first_of (Prim.search rules, Prim.grind (arith, Self.row.coded.inj)) };
+    ghost starts = { Prim.search rules };
 
-    ghost starts = { first_of (Prim.search rules, Prim.grind (arith, Self.row.coded.inj)) };
+    ghost ends = { Prim.search rules };
 
-    ghost ends = { first_of (Prim.search rules, Prim.grind (arith, Self.row.coded.inj)) };
-
-    fn limit(&self) -> u64 {
-        0x40_0000
-    }
-
-    fn test(&self, n: u64) -> bool {
-        let cube = (n * n) as u128 * n as u128;
-        cube <= self.of as u128
+    fn of(&self, n: u64) -> u128 {
+        u128::from(n * n) * u128::from(n)
     }
 }
 
-// The numbers whose fifth power over 10^12, rounded up on its way, is at most `of`.
+// A number's fifth power over 10^12, rounded up on its way.
 #[derive(Clone, Copy)]
-pub(crate) struct Fifth {
-    pub of: u64,
-    ghost held: { of < 2 ^ 64 },
-}
+pub(crate) struct Fifth;
 
-impl HoldsUpTo for Fifth {
-    ghost holds = { λ x n. fourth n * n ≤ x.of };
+impl Power for Fifth {
+    const BITS: u32 = 21;
 
-    ghost passes = { λ x n. nat_le (fourth n * n) x.of };
+    ghost BITS = { 21 };
 
-    ghost bits = { λ _. 21 };
+    ghost power = { λ _ n. fourth n * n };
 
-    ghost falls = { λ x m n h f. le_trans (fifth_rises m n h) f };
+    ghost few = { Prim.search rules };
 
-    ghost tells = { first_of (Prim.search rules, Prim.grind (arith, Self.row.coded.inj)) };
+    ghost rises = { λ _. fifth_rises };
 
-    ghost told = { first_of (Prim.search rules, Prim.grind (arith, Self.row.coded.inj)) };
+    ghost starts = { Prim.search rules };
 
-    ghost starts = { first_of (Prim.search rules, Prim.grind (arith, Self.row.coded.inj)) };
+    ghost ends = { Prim.search rules };
 
-    ghost ends = { first_of (Prim.search rules, Prim.grind (arith, Self.row.coded.inj)) };
-
-    fn limit(&self) -> u64 {
-        0x20_0000
-    }
-
-    fn test(&self, n: u64) -> bool {
-        let second = ((n * n + 99) / 100) as u128;
-        let fourth = (second * second + 99_999_999) / 100_000_000;
-        let fifth = fourth * n as u128;
-        fifth <= self.of as u128
+    fn of(&self, n: u64) -> u128 {
+        let second = u128::from((n * n).div_ceil(100));
+        let fourth = (second * second).div_ceil(100_000_000);
+        fourth * u128::from(n)
     }
 }

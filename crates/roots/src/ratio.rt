@@ -3,11 +3,14 @@ ghost use Rattle.std.specs.Prelude.{◌≡◌, ℕ, ◌+◌, ◌-◌, ◌*◌, �
 ghost use Rattle.roots.specs.Extremes.{Greatest, Least};
 ghost use Rattle.roots.specs.Roots.{root_down_of, root_up_of};
 
-use crate::bisection::greatest;
+use crate::bisection::root;
 use crate::powers::ScaledSquare;
 
 // The square of a million: a root in millionths, squared, is of this many parts.
 const MILLION_SQUARED: u64 = 1_000_000_000_000;
+
+// The most that a ratio is taken to.
+const MOST_WHOLE: u64 = 2_500_000;
 
 // The ratio of `a` to `b`: above 0, at most 1, and `b` at most 2,500,000.
 #[derive(Clone, Copy)]
@@ -24,7 +27,7 @@ impl Ratio {
     pub fn new(a: u64, b: u64) -> Option<Ratio>
         ensures { MatchOption result (0 < a → a ≤ b → b ≤ 2500000 → ⊥) (λ x. (x.a ≡ a) × (x.b ≡ b)) }
     {
-        if a > 0 && a <= b && b <= 2_500_000 {
+        if (1..=b).contains(&a) && b <= MOST_WHOLE {
             Some(Ratio { a, b })
         } else {
             None
@@ -37,7 +40,7 @@ impl Ratio {
         ensures value { result ≡ root_down_of self.now.a self.now.b }
         ensures within { result ≤ 10 ^ 6 }
     {
-        self.last_at_most()
+        self.scaled_root(self.a * MILLION_SQUARED)
     }
 
     // Its square root in millionths, rounded up.
@@ -46,28 +49,14 @@ impl Ratio {
         ensures value { result ≡ root_up_of self.now.a self.now.b }
         ensures within { result ≤ 10 ^ 6 }
     {
-        self.last_below() + 1
+        self.scaled_root(self.a * MILLION_SQUARED - 1) + 1
     }
 
-    // The greatest number whose square times `b` is at most `a` times 10^12.
-    fn last_at_most(&self) -> u64
-        ensures is { Greatest (λ n. n * n * self.now.b ≤ self.now.a * 10 ^ 12) result }
-        ensures value { result ≡ root_down_of self.now.a self.now.b }
-    {
-        greatest(&ScaledSquare {
-            of: self.a * MILLION_SQUARED,
-            by: self.b,
-        })
-    }
-
-    // The greatest number whose square times `b` is below `a` times 10^12.
-    fn last_below(&self) -> u64
-        ensures is { Greatest (λ n. n * n * self.now.b ≤ self.now.a * 10 ^ 12 - 1) result }
+    // The greatest number whose square times `b` is at most `x`.
+    fn scaled_root(&self, x: u64) -> u64
+        ensures is { Greatest (λ n. n * n * self.now.b ≤ x) result }
         ensures within { result < 2 ^ 32 }
     {
-        greatest(&ScaledSquare {
-            of: self.a * MILLION_SQUARED - 1,
-            by: self.b,
-        })
+        root(&ScaledSquare { by: self.b }, x)
     }
 }

@@ -3,7 +3,7 @@ ghost use Rattle.std.specs.Prelude.{◌≡◌, ℕ, ◌+◌, ◌*◌, ◌/◌, �
 ghost use Rattle.roots.specs.Extremes.{Greatest};
 ghost use Rattle.roots.specs.Roots.{cube_root_of, fifth_root_of, fourth, square_root_of};
 
-use crate::bisection::greatest;
+use crate::bisection::root;
 use crate::powers::{Cube, Fifth, ScaledSquare};
 
 // The greatest number whose square is at most `x`.
@@ -12,7 +12,7 @@ pub fn square_root(x: u64) -> u64
     ensures value { result ≡ square_root_of x }
     ensures within { result < 2 ^ 32 }
 {
-    greatest(&ScaledSquare { of: x, by: 1 })
+    root(&ScaledSquare { by: 1 }, x)
 }
 
 // The greatest number whose cube is at most `x`.
@@ -21,7 +21,7 @@ pub fn cube_root(x: u64) -> u64
     ensures value { result ≡ cube_root_of x }
     ensures within { result < 2 ^ 22 }
 {
-    greatest(&Cube { of: x })
+    root(&Cube, x)
 }
 
 // The greatest number whose fifth power over 10^12, rounded up on its way, is at most `x`.
@@ -30,5 +30,5 @@ pub fn fifth_root(x: u64) -> u64
     ensures value { result ≡ fifth_root_of x }
     ensures within { result < 2 ^ 21 }
 {
-    greatest(&Fifth { of: x })
+    root(&Fifth, x)
 }

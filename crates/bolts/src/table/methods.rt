@@ -1,17 +1,17 @@
 // Making a table, placing and lifting bolts, and reading it.
-ghost use Rattle.std.specs.Prelude.{◌≡◌, ◌+◌, ◌<◌, ◌≤◌, true, ◌⊎◌, length, is_ok, if◌then◌else◌};
+ghost use Rattle.std.specs.Prelude.{◌≡◌, ◌+◌, ◌-◌, ◌<◌, ◌≤◌, true, ◌⊎◌, length, is_ok, MatchOption, if◌then◌else◌};
 ghost use Rattle.bolts.specs.Tables.{held, reaches, Made};
-ghost use Rattle.bolts.specs.Bolts.{position_at, placed, lifted};
+ghost use Rattle.bolts.specs.Bolts.{placed, lifted};
 ghost use Rattle.bolts.specs.Asked.{first_no};
 ghost use Rattle.bolts.specs.Loads.{total_load};
 ghost use Rattle.bolts.specs.Placing.{asked_of_place, asked_of_lift, Joined, Parted};
-ghost use Rattle.bolts.specs.Neighbours.{Nearest};
+ghost use Rattle.bolts.specs.Neighbours.{Nearest, IsGap};
 
 use crate::bolt::{Bolt, Direction};
 use crate::fault::Fault;
 use crate::refusal::Refusal;
 use crate::table::BoltTable;
-use crate::table::places::{find, is_clear, is_loaded, slot};
+use crate::table::places::{find, is_clear, slot};
 use std::alloc::Global;
 
 // The most bolts that a table holds.
@@ -26,12 +26,10 @@ impl BoltTable {
         ensures { Made reach result }
     {
         if reach > MOST_REACH {
-            return Err(Fault::Refused(Refusal::Opening));
+            return Err(Refusal::Opening.into());
         }
-        match Vec::with_capacity(heap, MOST_BOLTS) {
-            Ok(bolts) => Ok(BoltTable { reach, bolts }),
-            Err(_) => Err(Fault::Memory),
-        }
+        let bolts = Vec::with_capacity(heap, MOST_BOLTS)?;
+        Ok(BoltTable { reach, bolts })
     }
 
     // How many bolts there are.
@@ -59,7 +57,7 @@ impl BoltTable {
         if bolt.position > self.reach {
             return Err(Refusal::Position);
         }
-        if !is_loaded(bolt) {
+        if !bolt.is_loaded() {
             return Err(Refusal::Loads);
         }
         if self.len() >= MOST_BOLTS {
@@ -69,7 +67,7 @@ impl BoltTable {
             return Err(Refusal::Near);
         }
         let i = slot(&self.bolts, bolt.position);
-        let _ = self.bolts.insert(i, bolt);
+        self.bolts.insert(i, bolt).unwrap();
         Ok(())
     }
 
@@ -80,13 +78,9 @@ impl BoltTable {
         ensures reach { reaches self.new ≡ reaches self.old }
         ensures parted { is_ok result ≡ true → Parted position (held self.old) (held self.new) }
     {
-        match find(&self.bolts, position) {
-            Some(i) => {
-                let _ = self.bolts.remove(i);
-                Ok(())
-            }
-            None => Err(Refusal::NoBolt),
-        }
+        let i = find(&self.bolts, position).ok_or(Refusal::NoBolt)?;
+        let _ = self.bolts.remove(i);
+        Ok(())
     }
 
     // How far the k-th bolt, from 0, lies from the nearest other one, in tenths. None where there is no k-th bolt or no
@@ -94,25 +88,27 @@ impl BoltTable {
     pub fn nearest(&self, k: usize) -> Option<u32>
         ensures { Nearest (held self.now) k result }
     {
-        let count = self.len();
-        if k >= count || count == 1 {
-            return None;
+        match (self.gap_before(k), self.gap_after(k)) {
+            (Some(before), Some(after)) => Some(before.min(after)),
+            (Some(before), None) => Some(before),
+            (None, after) => after,
         }
-        if k == 0 {
-            return Some(self.gap(0));
-        }
-        if k + 1 == count {
-            return Some(self.gap(k - 1));
-        }
-        Some(smaller(self.gap(k - 1), self.gap(k)))
     }
 
-    // How far the k-th bolt lies from the next.
-    fn gap(&self, k: usize) -> u32
-        requires { k + 1 < length (held self.now) }
-        ensures { position_at (held self.now) k + result ≡ position_at (held self.now) (k + 1) }
+    // How far the k-th bolt lies from the one before it; none for the first.
+    fn gap_before(&self, k: usize) -> Option<u32>
+        ensures { MatchOption result (1 ≤ k → length (held self.now) ≤ k) (λ d. (1 ≤ k) × IsGap (held self.now) (k - 1) d) }
     {
-        self.bolts[k + 1].position - self.bolts[k].position
+        self.gap_after(k.checked_sub(1)?)
+    }
+
+    // How far the k-th bolt lies from the next; none for the last.
+    fn gap_after(&self, k: usize) -> Option<u32>
+        ensures { MatchOption result (length (held self.now) ≤ k + 1) (λ d. IsGap (held self.now) k d) }
+    {
+        let bolt = self.bolts.get(k)?;
+        let next = self.bolts.get(k + 1)?;
+        Some(next.position - bolt.position)
     }
 
     // The sum of the bolts' loads in a direction, in N.
@@ -120,18 +116,9 @@ impl BoltTable {
         ensures value { result ≡ total_load direction (held self.now) }
         ensures bound { result ≤ 3200000 }
     {
-        let bolts = self.bolts();
-        let mut sum = 0;
-        for b in bolts {
-            sum += u64::from(b.load(direction));
-        }
-        sum
+        self.bolts()
+            .iter()
+            .map(|b| u64::from(b.load(direction)))
+            .sum()
     }
-}
-
-fn smaller(a: u32, b: u32) -> u32
-    ensures lower { (result ≤ a) × (result ≤ b) }
-    ensures either { (result ≡ a) ⊎ (result ≡ b) }
-{
-    if a < b { a } else { b }
 }

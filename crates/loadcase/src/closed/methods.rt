@@ -1,8 +1,8 @@
 // Closing and reopening a case, and what a closed case tells.
-ghost use Rattle.std.specs.Prelude.{◌≡◌, take, IfSome, if◌then◌else◌, Some, None, nat_lt};
+ghost use Rattle.std.specs.Prelude.{◌≡◌, IfSome, if◌then◌else◌, Some, None, nat_lt};
 ghost use Rattle.bolts.specs.Neighbours.{Nearest};
-ghost use Rattle.forces.specs.Exact.{length_of, force, forces, NeverBelow, HardlyAbove, Bounded};
-ghost use Rattle.loadcase.specs.Held.{opening_of, bolts_of, case_of};
+ghost use Rattle.forces.specs.Exact.{length_of, force, NeverBelow, HardlyAbove, Bounded};
+ghost use Rattle.loadcase.specs.Held.{case_of};
 ghost use Rattle.loadcase.specs.Closed.{closed_case};
 
 use crate::closed::ClosedCase;
@@ -15,12 +15,10 @@ impl OpenCase {
     pub fn close(self) -> ClosedCase
         ensures { closed_case result ≡ case_of self }
     {
-        let tension = self.forces(Direction::Tension);
-        let shear = self.forces(Direction::Shear);
+        let forces = self.forces();
         ClosedCase {
             within: self,
-            tension,
-            shear,
+            forces,
         }
     }
 }
@@ -30,11 +28,7 @@ impl ClosedCase {
     pub fn reopen(self) -> OpenCase
         ensures { case_of result ≡ closed_case self }
     {
-        let ClosedCase {
-            within,
-            tension: _,
-            shear: _,
-        } = self;
+        let ClosedCase { within, forces: _ } = self;
         within
     }
 
@@ -73,19 +67,9 @@ impl ClosedCase {
         ensures hardly_above { IfSome result (HardlyAbove (closed_case self.now) direction k) }
         ensures bounded { Bounded (closed_case self.now) direction }
     {
-        if k >= self.opening().anchors as usize {
-            return None;
-        }
-        let forces = self.forces_in(direction);
-        Some(forces[k])
-    }
-
-    fn forces_in(&self, direction: Direction) -> [u64; 12]
-        ensures { take self.now.within.anchors result ≡ forces (closed_case self.now) direction }
-    {
-        match direction {
-            Direction::Tension => self.tension,
-            Direction::Shear => self.shear,
-        }
+        let on_anchors = &self.forces[..self.opening().anchors as usize];
+        on_anchors
+            .get(k)
+            .map(|forces| forces.in_direction(direction))
     }
 }

@@ -9,6 +9,7 @@ ghost use Rattle.forces.specs.Exact.{length_of};
 ghost use Rattle.loadcase.specs.Opened.{Opened};
 ghost use Rattle.loadcase.specs.Held.{opening_of, bolts_of};
 
+use crate::anchor::MOST_ANCHORS;
 use crate::open::OpenCase;
 use bolts::bolt::Bolt;
 use bolts::fault::Fault;
@@ -20,31 +21,25 @@ use std::alloc::Global;
 
 const LEAST_ANCHORS: u32 = 2;
 
-const MOST_ANCHORS: u32 = 12;
-
 impl OpenCase {
     // A case with no bolt. Refused where a number is out of range; else only memory can be wanting.
     pub fn open(heap: Global, opening: Opening) -> Result<OpenCase, Fault>
         ensures { Opened opening result }
     {
         let anchors = opening.anchors;
-        if anchors < LEAST_ANCHORS || anchors > MOST_ANCHORS {
-            return Err(Fault::Refused(Refusal::Opening));
+        if !(LEAST_ANCHORS..=MOST_ANCHORS).contains(&anchors) {
+            return Err(Refusal::Opening.into());
         }
-        let Some(channel) = Channel::new(opening.inertia, opening.spacing) else {
-            return Err(Fault::Refused(Refusal::Opening));
-        };
+        let channel = Channel::new(opening.inertia, opening.spacing).ok_or(Refusal::Opening)?;
         let length = channel.influence_length();
         // the last anchor of a channel in range is within a table's reach, so only memory can be wanting
-        match BoltTable::new(heap, (anchors - 1) * channel.spacing) {
-            Ok(table) => Ok(OpenCase {
-                anchors,
-                channel,
-                length,
-                table,
-            }),
-            Err(_) => Err(Fault::Memory),
-        }
+        let table = BoltTable::new(heap, (anchors - 1) * channel.spacing)?;
+        Ok(OpenCase {
+            anchors,
+            channel,
+            length,
+            table,
+        })
     }
 
     // The numbers that the case was opened with.

@@ -1,15 +1,14 @@
-use Rattle.std.proofs.Common.{arith}
-use Rattle.bolts.proofs.Gaps.{nearest_first, nearest_last, nearest_between}
+use Rattle.bolts.proofs.Gaps.{nearest_of_both, nearest_of_before, nearest_of_after}
 use Rattle.bolts.proofs.table.BoltTable.nearest.Goals as goal
 
-pub returns-then-k-eq0 : goal.returns-then-k-eq0
-returns-then-k-eq0 c = nearest_first _ c.args.self.now.spaced _ _ c.if-k-eq0.true (omega arith) c.gap.ensures
+pub returns-in-Some-Some : goal.returns-in-Some-Some
+returns-in-Some-Some c =
+    rw c.min.ensures (nearest_of_both _ c.args.self.now.spaced c.args.k _ _ c.in-Some-Some.ensures c.in-Some-Some.ensures')
 
-pub returns-then-k-count-2 : goal.returns-then-k-count-2
-returns-then-k-count-2 c =
-    nearest_last _ c.args.self.now.spaced _ _ _ (omega arith) (omega arith) c.gap-then-k-count-2.ensures
+pub returns-in-Some-None : goal.returns-in-Some-None
+returns-in-Some-None c =
+    nearest_of_before _ c.args.self.now.spaced c.args.k _ c.in-Some-None.ensures c.in-Some-None.ensures'
 
-pub returns : goal.returns
-returns c =
-    let r = c.smaller.ensures in
-    nearest_between _ c.args.self.now.spaced _ _ _ _ _ (omega arith) (omega arith) c.gap-2.ensures c.gap-3.ensures r.lower.0 r.lower.1 r.either
+pub returns-in-None-default : goal.returns-in-None-default
+returns-in-None-default c =
+    nearest_of_after _ c.args.self.now.spaced c.args.k _ (rw c.in-None-default.is-0 at c.gap_before.ensures) c.gap_after.ensures

@@ -1,23 +1,12 @@
-use Rattle.std.proofs.Common.{◌≡◌, ℕ, ◌*◌, ◌∙◌, arith}
-use Rattle.roots.specs.Division.{up}
-use Rattle.loadcase.proofs.Validity.{spread_pos}
-use Rattle.loadcase.proofs.Products.{moment_le}
+use Rattle.std.proofs.Common.{◌≤◌, mul-le-mul, arith, rules}
+use Rattle.loadcase.proofs.Validity.{load_of_held, spread_pos}
 use Rattle.loadcase.proofs.open.OpenCase.share.Goals as goal
 
-pub part_up-requires : goal.part_up-requires
-part_up-requires c =
-    record {
-      loaded = omega (arith, c.load.ensures, c.requires.loaded);
-      short = c.arm-arm.ensures.small;
-      some = omega (arith, spread_pos c.args.self.now c.args.bolt c.requires.inside, c.spread_at-sum.ensures.value);
-    }
+pub overflow_mul-mn : goal.overflow_mul-mn
+overflow_mul-mn c =
+    let load : c.mn.result ≤ 200000000 = omega (arith, load_of_held c.args.self.now c.args.bolt c.requires c.args.direction, c.load.ensures) in
+    let arm : c.left-arm.result ≤ 1000005 = omega arith in
+    omega (arith, mul-le-mul load arm)
 
-same : (f f' a a' s s' : ℕ) → f ≡ f' → a ≡ a' → s ≡ s' → up (1000 * f * a) s ≡ up (1000 * f' * a') s'
-same f f' a a' s s' e g h = cc
-
-pub returns : goal.returns
-returns c =
-    record {
-      value = c.part_up.ensures.value ∙ same _ _ _ _ _ _ c.load.ensures c.arm-arm.ensures.value c.spread_at-sum.ensures.value;
-      small = omega (arith, c.part_up.ensures.small, moment_le (1000 * c.load.result) c.arm-arm.result (omega (arith, c.load.ensures, c.requires.loaded)) c.arm-arm.ensures.small);
-    }
+pub invariant_of-div_up : goal.invariant_of-div_up
+invariant_of-div_up c = let some = spread_pos c.args.self.now c.args.bolt c.requires in search rules

@@ -1,0 +1,27 @@
+// What a case holds of each anchor.
+ghost use Rattle.std.specs.Prelude.{◌≡◌};
+ghost use Rattle.loadcase.specs.Reckoned.{force_in};
+
+use bolts::bolt::Direction;
+
+// The most anchors that a case has.
+pub(crate) const MOST_ANCHORS: u32 = 12;
+
+// The forces on an anchor, in mN.
+#[derive(Clone, Copy, Default)]
+pub(crate) struct AnchorForces {
+    pub tension: u64,
+    pub shear: u64,
+}
+
+impl AnchorForces {
+    // The force in a direction.
+    pub(crate) fn in_direction(self, direction: Direction) -> u64
+        ensures { result ≡ force_in direction self }
+    {
+        match direction {
+            Direction::Tension => self.tension,
+            Direction::Shear => self.shear,
+        }
+    }
+}
