@@ -7,4 +7,4 @@ use Rattle.certificate.proofs.certificate.Certificate.factors.Goals as goal
 pub returns : goal.returns
 returns c =
     let e = c.factors_in.ensures ∙ ap factors_of c.section.ensures.bytes in
-    record { value = e; lawful = λ h. subst FactorsInRange (sym e) (factors_in_range c.args.self.now.bytes.now h) }
+    record { value = e; lawful = subst FactorsInRange (sym e) (factors_in_range c.args.self.now.bytes.now c.args.self.now.accepted) }

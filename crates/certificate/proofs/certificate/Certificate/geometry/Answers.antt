@@ -7,4 +7,4 @@ use Rattle.certificate.proofs.certificate.Certificate.geometry.Goals as goal
 pub returns : goal.returns
 returns c =
     let e = c.geometry_in.ensures ∙ ap geometry_of c.section.ensures.bytes in
-    record { value = e; lawful = λ h. subst GeometryInRange (sym e) (geometry_in_range c.args.self.now.bytes.now h) }
+    record { value = e; lawful = subst GeometryInRange (sym e) (geometry_in_range c.args.self.now.bytes.now c.args.self.now.accepted) }

@@ -8,4 +8,4 @@ pub returns : goal.returns
 returns c =
     let bs = c.args.self.now.bytes.now in
     let e = c.section-2.ensures.bytes ∙ ap (section_of bs) c.section.ensures in
-    record { place = c.section-2.ensures.place ∙ ap (offset bs) c.section.ensures; bytes = e; lawful = λ h. subst ListInRange (sym e) (list_in_range bs c.args.concrete h) }
+    record { place = c.section-2.ensures.place ∙ ap (offset bs) c.section.ensures; bytes = e; lawful = subst ListInRange (sym e) (list_in_range bs c.args.concrete c.args.self.now.accepted) }

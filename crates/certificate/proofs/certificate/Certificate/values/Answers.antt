@@ -7,4 +7,4 @@ use Rattle.certificate.proofs.certificate.Certificate.values.Goals as goal
 pub returns : goal.returns
 returns c =
     let e = c.values_in.ensures ∙ ap values_of c.section.ensures.bytes in
-    record { value = e; lawful = λ h. subst ValuesInRange (sym e) (values_in_range c.args.self.now.bytes.now h) }
+    record { value = e; lawful = subst ValuesInRange (sym e) (values_in_range c.args.self.now.bytes.now c.args.self.now.accepted) }
