@@ -15,11 +15,12 @@ pub enum Concrete {
     Uncracked,
 }
 
-impl Concrete {
-    pub(crate) fn section(self) -> Section
-        ensures { result ≡ list_section self }
-    {
-        match self {
+// The section that holds the list.
+impl From<Concrete> for Section {
+    ghost from_gives = { λ concrete section. section ≡ list_section concrete };
+
+    fn from(concrete: Concrete) -> Section {
+        match concrete {
             Concrete::Cracked => Section::Cracked,
             Concrete::Uncracked => Section::Uncracked,
         }

@@ -29,11 +29,7 @@ impl<'a> Certificate<'a> {
     pub fn edition(&self) -> Edition
         ensures { result ≡ edition_of self.now.bytes.now }
     {
-        if byte_at(self.bytes, 0) == 1 {
-            Edition::First
-        } else {
-            Edition::Second
-        }
+        Edition::try_from(byte_at(self.bytes, 0)).unwrap() // the head was asked
     }
 
     // A section as a part of the caller's bytes, with its place among them.
@@ -74,6 +70,6 @@ impl<'a> Certificate<'a> {
         ensures bytes { result.bytes.now ≡ section_of self.now.bytes.now (list_section concrete) }
         ensures lawful { ListInRange result.bytes.now }
     {
-        self.section(concrete.section())
+        self.section(Section::from(concrete))
     }
 }

@@ -6,4 +6,4 @@ use Rattle.certificate.proofs.layout.part_of.Goals as goal
 pub returns : goal.returns
 returns c =
     let k = clip c.args.bytes.now (offset c.args.bytes.now c.args.section) (size c.args.bytes.now c.args.section) in
-    record { place = search rules; bytes = cc (c.min-begin.ensures, c.min-end.ensures, c.pair_of-pair.ensures.offset, c.pair_of-pair.ensures.length) }
+    record { place = search rules; bytes = cc (c.min-begin.ensures, c.min-end.ensures, c.of-pair.ensures.offset, c.of-pair.ensures.length) }
