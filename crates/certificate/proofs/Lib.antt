@@ -1,4 +1,3 @@
-pub mod Clips
 pub mod Firsts
 pub mod Sound
 pub mod RuleTables

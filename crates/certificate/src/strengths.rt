@@ -41,6 +41,7 @@ fn ask_entry(list: Part<'_>, k: usize) -> Result<(), CertificateFault>
 pub(crate) fn ask_list(list: Part<'_>) -> Result<(), CertificateFault>
     ensures { result ≡ first_no (list_asked list.entry.place list.entry.bytes.now) }
 {
+    // by number: an entry is asked beside the one before it, and its fault names its place
     for k in 0..list.bytes.len() / ENTRY_LENGTH {
         ask_entry(list, k)?;
     }

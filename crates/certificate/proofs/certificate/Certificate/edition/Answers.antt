@@ -1,5 +1,4 @@
-use Rattle.std.proofs.Common.{◌≡◌, Ok, ap, ◌∙◌, rules}
-use Rattle.certificate.specs.Content.{edition_of}
+use Rattle.std.proofs.Common.{ap, ◌∙◌, rules}
 use Rattle.certificate.specs.Editions.{edition_named}
 use Rattle.certificate.proofs.Sound.{names_edition}
 use Rattle.certificate.proofs.certificate.Certificate.edition.Goals as goal
@@ -8,8 +7,3 @@ pub unwrap-requires : goal.unwrap-requires
 unwrap-requires c =
     let e = c.try_from.ensures ∙ ap edition_named c.byte_at.ensures ∙ names_edition c.args.self.now.bytes.now c.args.self.now.accepted in
     rw e (search rules)
-
-pub returns : goal.returns
-returns c =
-    let e = c.try_from.ensures ∙ ap edition_named c.byte_at.ensures ∙ names_edition c.args.self.now.bytes.now c.args.self.now.accepted in
-    cc (e, c.unwrap.ensures)
