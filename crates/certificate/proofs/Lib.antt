@@ -1,6 +1,5 @@
-pub mod Clips
 pub mod Firsts
 pub mod Sound
-pub mod Drafting
+pub mod RuleTables
 pub mod RoundTrip
 pub mod Written

@@ -1,5 +1,5 @@
 -- What the answered questions say of a certificate's numbers.
-use Rattle.std.proofs.Common.{◌≡◌, ℕ, zero, suc, ◌-◌, ◌/◌, ◌%◌, ◌<◌, ◌≤◌, true, ◌&&◌, ◌||◌, eqb, ltb, leb, ◌⊎◌, List, [], ◌∷◌, ◌++◌, length, get_or, Ok, ap, ◌∙◌, subst, inl, inr, ⊎_elim, lt_trans, arith, length-drop, length-take}
+use Rattle.std.proofs.Common.{◌≡◌, ℕ, zero, suc, ◌-◌, ◌/◌, ◌%◌, ◌<◌, ◌≤◌, true, ◌&&◌, ◌||◌, eqb, ltb, leb, ◌⊎◌, List, [], ◌∷◌, ◌++◌, length, slice_index, get_or, Ok, ap, ◌∙◌, subst, inl, inr, ⊎_elim, lt_trans, arith, length-drop, length-take}
 use Rattle.std.specs.List.{range_with_len, flat_map, AllByRecursion}
 use Rattle.std.proofs.lemmas.List.FromFn.{length-range_with_len, get_or-range_with_len}
 use Rattle.std.proofs.lemmas.Bool.Decides.{nat_tests}
@@ -10,7 +10,8 @@ use Rattle.certificate.specs.Rules.{allowed, two, four_or_zero, fields_asked, ge
 use Rattle.certificate.specs.Reading.{refusal, numbers_asked, strengths_asked}
 use Rattle.certificate.specs.Strengths.{strength_at, factor_at, entry_asked, list_asked}
 use Rattle.certificate.specs.Lookup.{list_section}
-use Rattle.certificate.specs.Content.{geometry_of, values_of, factors_of}
+use Rattle.certificate.specs.Content.{edition_of, geometry_of, values_of, factors_of}
+use Rattle.certificate.specs.Editions.{edition_named}
 use Rattle.certificate.specs.Ranges.{Between, GeometryInRange, ValuesInRange, FactorsInRange, ListInRange}
 use Rattle.certificate.specs.declared.layout.Section.{Section}
 use Rattle.certificate.specs.declared.layout.Section.TheVariants.{Geometry, Resistance, Cracked, Uncracked}
@@ -65,6 +66,14 @@ resistance_asked bs = fields_asked (offset bs Resistance) (section_of bs Resista
 
 abbrev ratios : List ℕ → Asked
 ratios bs = ratios_asked (offset bs Geometry) (section_of bs Geometry)
+
+-- a certificate that was read names an edition
+pub names_edition : (bs : List ℕ) → refusal bs ≡ Ok tt → edition_named (slice_index bs 0) ≡ Ok (edition_of bs)
+unfolding refusal
+names_edition bs h =
+    let all = all_yes (header_asked bs ++ (layout_asked bs ++ (numbers_asked bs ++ strengths_asked bs))) h in
+    let one : (eqb (slice_index bs 0) 1 || eqb (slice_index bs 0) 2) ≡ true = all.1.0 in
+    grind (arith, nat_tests)
 
 pub geometry_in_range : (bs : List ℕ) → refusal bs ≡ Ok tt → GeometryInRange (geometry_of (section_of bs Geometry))
 unfolding geometry_rules

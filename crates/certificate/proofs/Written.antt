@@ -1,5 +1,5 @@
 -- How long a written certificate is, and what is asked of it.
-use Rattle.std.proofs.Common.{◌≡◌, ℕ, ◌+◌, ◌*◌, ◌<◌, cond, leb, List, [], ◌∷◌, ◌++◌, length, Ok, Err, ◌∙◌, append_assoc, arith, length-append}
+use Rattle.std.proofs.Common.{◌≡◌, ℕ, ◌+◌, ◌*◌, ◌<◌, cond, leb, [], ◌∷◌, ◌++◌, length, Ok, Err, arith, length-append}
 use Rattle.std.proofs.lemmas.Bool.{cond-false, and_right, lt-leb}
 use Rattle.certificate.specs.Asked.{fault}
 use Rattle.certificate.specs.Reading.{refusal, certificate_asked}
@@ -9,12 +9,6 @@ use Rattle.certificate.specs.declared.fault.CertificateFault.{CertificateFault}
 use Rattle.certificate.specs.declared.fault.Question.TheVariants.{Header, Buffer}
 use Rattle.certificate.proofs.Firsts.{first_no_then, first_no_stop}
 use Rattle.certificate.proofs.RoundTrip.{length-list}
-
--- the parts of a draft, one after the other
-pub joined_parts : (a b c d e f g head geometry values factors cracked uncracked : List ℕ) → a ≡ [] → b ≡ a ++ head → c ≡ b ++ geometry → d ≡ c ++ values → e ≡ d ++ factors → f ≡ e ++ cracked → g ≡ f ++ uncracked → g ≡ head ++ (geometry ++ ((values ++ factors) ++ (cracked ++ uncracked)))
-joined_parts a b c d e f g head geometry values factors cracked uncracked i j k l m n o =
-    let all : g ≡ ((((([] ++ head) ++ geometry) ++ values) ++ factors) ++ cracked) ++ uncracked = cc in
-    all ∙ simp append_assoc
 
 pub length-written : (c : Content) → length (written c) ≡ 102 + 4 * (length c.cracked + length c.uncracked)
 unfolding written

@@ -1,6 +1,6 @@
 -- What has been written into a draft so far.
-use Rattle.std.specs.Prelude.{ℕ, List, take}
-use Rattle.certificate.specs.declared.draft.Draft.{Draft}
+use Rattle.std.specs.Prelude.{ℕ, List}
+use Rattle.arrayvec.specs.ArrayVec.{ArrayVec}
 
-abbrev pub drafted : Draft → List ℕ
-drafted d = take d.count d.bytes
+abbrev pub drafted : ArrayVec ℕ → List ℕ
+drafted d = d.items

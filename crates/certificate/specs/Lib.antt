@@ -1,6 +1,7 @@
 pub mod Numbers
 pub mod Bytes
 pub mod Asked
+pub mod Editions
 pub mod Layout
 pub mod Rules
 pub mod Strengths

@@ -109,7 +109,10 @@ Wrote c old new (Ok n) =
     × (reading (written c) ≡ Ok c)
 Wrote c old new (Err e) = (writing_refusal c (length old) ≡ Err e) × (new ≡ old)
 
--- numbers of two and of four bytes
+-- numbers of one, two and four bytes
+abbrev pub Fits8 : ℕ → Type 0
+Fits8 n = n < 2 ^ 8
+
 abbrev pub Fits16 : ℕ → Type 0
 Fits16 n = n < 2 ^ 16
 

@@ -7,15 +7,15 @@ use crate::fault::CertificateFault;
 use crate::layout::{Section, ask_header, ask_layout, part_of};
 use crate::rules::{ask_fields, ask_ratios};
 use crate::strengths::ask_list;
-use crate::tables::{geometry_rules, resistance_rules};
+use crate::tables::{GEOMETRY, RESISTANCE};
 
 // Whether every number of the first two sections is in its range.
 fn ask_numbers(bytes: &[u8]) -> Result<(), CertificateFault>
     ensures { result ≡ first_no (numbers_asked bytes.now) }
 {
     let geometry = part_of(bytes, Section::Geometry);
-    ask_fields(geometry, geometry_rules())?;
-    ask_fields(part_of(bytes, Section::Resistance), resistance_rules())?;
+    ask_fields(geometry, &GEOMETRY)?;
+    ask_fields(part_of(bytes, Section::Resistance), &RESISTANCE)?;
     ask_ratios(geometry)
 }
 

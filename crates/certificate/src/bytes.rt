@@ -2,27 +2,24 @@
 ghost use Rattle.std.specs.Prelude.{◌≡◌, ◌+◌, ◌^◌, ◌<◌, slice_index};
 ghost use Rattle.certificate.specs.Bytes.{u16_at, u32_at};
 
+use std::array;
+
 pub(crate) fn byte_at(bytes: &[u8], at: usize) -> u8
     ensures { result ≡ slice_index bytes.now at }
 {
-    if at < bytes.len() { bytes[at] } else { 0 }
+    bytes.get(at).copied().unwrap_or(0)
 }
 
 pub(crate) fn u16_at(bytes: &[u8], at: usize) -> u16
     requires { at + 1 < 2 ^ 64 }
     ensures { result ≡ u16_at bytes.now at }
 {
-    u16::from_le_bytes([byte_at(bytes, at), byte_at(bytes, at + 1)])
+    u16::from_le_bytes(array::from_fn(|k| byte_at(bytes, at + k)))
 }
 
 pub(crate) fn u32_at(bytes: &[u8], at: usize) -> u32
     requires { at + 3 < 2 ^ 64 }
     ensures { result ≡ u32_at bytes.now at }
 {
-    u32::from_le_bytes([
-        byte_at(bytes, at),
-        byte_at(bytes, at + 1),
-        byte_at(bytes, at + 2),
-        byte_at(bytes, at + 3),
-    ])
+    u32::from_le_bytes(array::from_fn(|k| byte_at(bytes, at + k)))
 }

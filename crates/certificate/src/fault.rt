@@ -1,5 +1,6 @@
 // Why a certificate is refused: which question failed, and where.
 ghost use Rattle.std.specs.Prelude.{◌≡◌};
+ghost use Rattle.certificate.specs.Asked.{fault};
 ghost use Rattle.certificate.specs.Numbers.{number};
 
 // What is asked of a certificate.
@@ -23,6 +24,16 @@ impl Question {
             Question::Range => 3,
             Question::Strengths => 4,
             Question::Buffer => 15,
+        }
+    }
+
+    // The fault that the question failed at this byte.
+    pub(crate) fn at(self, byte: usize) -> CertificateFault
+        ensures { result ≡ fault self byte }
+    {
+        CertificateFault {
+            question: self,
+            byte,
         }
     }
 }

@@ -1,10 +1,40 @@
 // What a certificate says: plain numbers under the names of the trade.
+ghost use Rattle.std.specs.Prelude.{◌≡◌};
+ghost use Rattle.certificate.specs.Editions.{edition_byte, edition_named};
+
+use crate::fault::{CertificateFault, Question};
 
 // The rules by which a certificate is rated.
 #[derive(Clone, Copy)]
 pub enum Edition {
     First,
     Second,
+}
+
+impl From<Edition> for u8 {
+    ghost from_gives = { λ edition byte. byte ≡ edition_byte edition };
+
+    fn from(edition: Edition) -> u8 {
+        match edition {
+            Edition::First => 1,
+            Edition::Second => 2,
+        }
+    }
+}
+
+// An edition is named by byte 0 of a certificate.
+impl TryFrom<u8> for Edition {
+    type Error = CertificateFault;
+
+    ghost try_from_gives = { λ byte r. r ≡ edition_named byte };
+
+    fn try_from(byte: u8) -> Result<Edition, CertificateFault> {
+        match byte {
+            1 => Ok(Edition::First),
+            2 => Ok(Edition::Second),
+            _ => Err(Question::Header.at(0)),
+        }
+    }
 }
 
 // Lengths in tenths of a millimetre, factors k in tenths, the moment of inertia in mm⁴.
@@ -63,6 +93,7 @@ pub struct StrengthFactor {
 // All that is written into a certificate.
 #[derive(Clone, Copy)]
 pub struct Fields<'a> {
+    // A byte that names no edition may be handed in: the writer refuses it.
     pub edition: u8,
     pub geometry: Geometry,
     pub values: CharacteristicValues,

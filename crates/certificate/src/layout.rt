@@ -5,13 +5,23 @@ ghost use Rattle.certificate.specs.Layout.{number_of, offset, size, section_end,
 
 use crate::bytes::u16_at;
 use crate::fault::{CertificateFault, Question};
+use crate::fields::Edition;
 use crate::part::Part;
+use crate::strengths::ENTRY_LENGTH;
 
 pub const HEADER_LENGTH: usize = 18;
 
 pub const MOST_BYTES: usize = 4096;
 
 pub const SECTIONS: u8 = 4;
+
+pub(crate) const GEOMETRY_LENGTH: u16 = 24;
+
+pub(crate) const RESISTANCE_LENGTH: u16 = 60;
+
+const LEAST_LIST: u16 = 4;
+
+const MOST_LIST: u16 = 256;
 
 // The four sections, in the order of their pairs.
 #[derive(Clone, Copy)]
@@ -43,59 +53,56 @@ impl Section {
     }
 
     // Whether the section may have this length.
-    fn may_be(self, length: usize) -> bool
+    fn may_be(self, length: u16) -> bool
         ensures { result ≡ right_size self length }
     {
         match self {
-            Section::Geometry => length == 24,
-            Section::Resistance => length == 60,
-            Section::Cracked | Section::Uncracked => 4 <= length
-                && length <= 256
-                && length % 4 == 0,
+            Section::Geometry => length == GEOMETRY_LENGTH,
+            Section::Resistance => length == RESISTANCE_LENGTH,
+            Section::Cracked | Section::Uncracked => {
+                (LEAST_LIST..=MOST_LIST).contains(&length) && length % ENTRY_LENGTH as u16 == 0
+            }
         }
     }
 }
 
 // Where a section begins, and how long it is, as its pair says.
 #[derive(Clone, Copy)]
-pub(crate) struct Pair {
-    pub(crate) offset: usize,
-    pub(crate) length: usize,
+struct Pair {
+    offset: u16,
+    length: u16,
 }
 
-pub(crate) fn pair_of(bytes: &[u8], section: Section) -> Pair
-    ensures offset { result.offset ≡ offset bytes.now section }
-    ensures length { result.length ≡ size bytes.now section }
-    ensures near { result.offset ≤ 65535 }
-    ensures short { result.length ≤ 65535 }
-{
-    let at = section.pair_byte();
-    Pair {
-        offset: u16_at(bytes, at) as usize,
-        length: u16_at(bytes, at + 2) as usize,
+impl Pair {
+    // The pair of this section.
+    fn of(bytes: &[u8], section: Section) -> Pair
+        ensures offset { result.offset ≡ offset bytes.now section }
+        ensures length { result.length ≡ size bytes.now section }
+    {
+        let at = section.pair_byte();
+        Pair {
+            offset: u16_at(bytes, at),
+            length: u16_at(bytes, at + 2),
+        }
+    }
+
+    // Where the section ends.
+    fn end(self) -> usize
+        ensures { result ≡ self.offset + self.length }
+    {
+        usize::from(self.offset) + usize::from(self.length)
     }
 }
 
 pub(crate) fn ask_header(bytes: &[u8]) -> Result<(), CertificateFault>
     ensures { result ≡ first_no (header_asked bytes.now) }
 {
-    if bytes.len() < HEADER_LENGTH || bytes.len() > MOST_BYTES {
-        return Err(CertificateFault {
-            question: Question::Header,
-            byte: 0,
-        });
+    if !(HEADER_LENGTH..=MOST_BYTES).contains(&bytes.len()) {
+        return Err(Question::Header.at(0));
     }
-    if bytes[0] != 1 && bytes[0] != 2 {
-        return Err(CertificateFault {
-            question: Question::Header,
-            byte: 0,
-        });
-    }
+    Edition::try_from(bytes[0])?;
     if bytes[1] != SECTIONS {
-        return Err(CertificateFault {
-            question: Question::Header,
-            byte: 1,
-        });
+        return Err(Question::Header.at(1));
     }
     Ok(())
 }
@@ -103,15 +110,9 @@ pub(crate) fn ask_header(bytes: &[u8]) -> Result<(), CertificateFault>
 fn ask_pair(bytes: &[u8], section: Section, from: usize) -> Result<(), CertificateFault>
     ensures { result ≡ first_no (pair_asked bytes.now section from) }
 {
-    let pair = pair_of(bytes, section);
-    if pair.offset < from
-        || pair.offset + pair.length > bytes.len()
-        || !section.may_be(pair.length)
-    {
-        return Err(CertificateFault {
-            question: Question::Layout,
-            byte: section.pair_byte(),
-        });
+    let pair = Pair::of(bytes, section);
+    if usize::from(pair.offset) < from || pair.end() > bytes.len() || !section.may_be(pair.length) {
+        return Err(Question::Layout.at(section.pair_byte()));
     }
     Ok(())
 }
@@ -141,8 +142,7 @@ pub(crate) fn ask_layout(bytes: &[u8]) -> Result<(), CertificateFault>
 fn section_end(bytes: &[u8], section: Section) -> usize
     ensures { result ≡ section_end bytes.now section }
 {
-    let pair = pair_of(bytes, section);
-    pair.offset + pair.length
+    Pair::of(bytes, section).end()
 }
 
 // The part of the caller's bytes that a section's pair points to, as far as it lies inside the file.
@@ -150,10 +150,10 @@ pub(crate) fn part_of<'a>(bytes: &'a [u8], section: Section) -> Part<'a>
     ensures place { result.place ≡ offset bytes.now section }
     ensures bytes { result.bytes.now ≡ section_of bytes.now section }
 {
-    let pair = pair_of(bytes, section);
-    let place = pair.offset;
+    let pair = Pair::of(bytes, section);
+    let place = usize::from(pair.offset);
     let begin = place.min(bytes.len());
-    let end = (place + pair.length).min(bytes.len());
+    let end = pair.end().min(bytes.len());
     Part {
         place,
         bytes: &bytes[begin..end],

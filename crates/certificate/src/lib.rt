@@ -9,6 +9,7 @@ mod bytes;
 pub mod certificate;
 mod decode;
 mod draft;
+mod encode;
 pub mod fault;
 pub mod fields;
 pub mod layout;

@@ -15,11 +15,12 @@ pub enum Concrete {
     Uncracked,
 }
 
-impl Concrete {
-    pub(crate) fn section(self) -> Section
-        ensures { result ≡ list_section self }
-    {
-        match self {
+// The section that holds the list.
+impl From<Concrete> for Section {
+    ghost from_gives = { λ concrete section. section ≡ list_section concrete };
+
+    fn from(concrete: Concrete) -> Section {
+        match concrete {
             Concrete::Cracked => Section::Cracked,
             Concrete::Uncracked => Section::Uncracked,
         }
@@ -39,12 +40,7 @@ fn chosen<'a>(cracked: &'a [u8], uncracked: &'a [u8], concrete: Concrete) -> &'a
 fn index_of(list: &[u8], strength: u16) -> Option<usize>
     ensures { FirstAt list.now strength result }
 {
-    for k in 0..list.len() / ENTRY_LENGTH {
-        if u16_at(list, ENTRY_LENGTH * k) == strength {
-            return Some(k);
-        }
-    }
-    None
+    (0..list.len() / ENTRY_LENGTH).find(|&k| u16_at(list, ENTRY_LENGTH * k) == strength)
 }
 
 // The part of the chosen list that begins with the wanted strength class, or none where no entry has it.
@@ -57,12 +53,17 @@ pub fn lookup<'a>(
     ensures { TailFrom (chosen_list cracked.now uncracked.now concrete) strength result }
 {
     let list = chosen(cracked, uncracked, concrete);
-    match index_of(list, strength) {
-        Some(k) => {
-            let at = ENTRY_LENGTH * k;
-            Some(&list[at..])
-        }
-        None => None,
+    let k = index_of(list, strength)?;
+    Some(&list[ENTRY_LENGTH * k..])
+}
+
+// The entry that these bytes begin with.
+pub fn entry_in(bytes: &[u8]) -> StrengthFactor
+    ensures { result ≡ entry_at bytes.now 0 }
+{
+    StrengthFactor {
+        strength: u16_at(bytes, 0),
+        factor: u16_at(bytes, 2),
     }
 }
 
@@ -70,12 +71,9 @@ pub fn lookup<'a>(
 pub fn entry_of(list: &[u8], k: usize) -> Option<StrengthFactor>
     ensures { result ≡ at_place list.now k }
 {
+    // by its place: `nth` of the chunks would walk to it
     if k >= list.len() / ENTRY_LENGTH {
         return None;
     }
-    let at = ENTRY_LENGTH * k;
-    Some(StrengthFactor {
-        strength: u16_at(list, at),
-        factor: u16_at(list, at + 2),
-    })
+    Some(entry_in(&list[ENTRY_LENGTH * k..]))
 }

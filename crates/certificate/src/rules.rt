@@ -14,7 +14,8 @@ pub enum Width {
     Four,
 }
 
-// A number of a section: where it begins, its width, its range, and whether 0 is lawful besides.
+// A number of a section: where it begins, its width, its range, and whether 0 is lawful besides. The range is two
+// numbers: a rule is copied, and a `RangeInclusive` is not.
 #[derive(Clone, Copy)]
 pub struct FieldRule {
     pub offset: u8,
@@ -28,9 +29,9 @@ impl FieldRule {
     fn value(self, section: &[u8]) -> u32
         ensures { result ≡ value_at section.now self }
     {
-        let at = self.offset as usize;
+        let at = usize::from(self.offset);
         match self.width {
-            Width::Two => u16_at(section, at) as u32,
+            Width::Two => u32::from(u16_at(section, at)),
             Width::Four => u32_at(section, at),
         }
     }
@@ -38,7 +39,7 @@ impl FieldRule {
     fn allows(self, value: u32) -> bool
         ensures { result ≡ allowed self value }
     {
-        self.least <= value && value <= self.most || self.or_zero && value == 0
+        (self.least..=self.most).contains(&value) || self.or_zero && value == 0
     }
 }
 
@@ -47,10 +48,7 @@ pub(crate) fn ask_fields(section: Part<'_>, rules: &[FieldRule]) -> Result<(), C
 {
     for rule in rules {
         if !rule.allows(rule.value(section.bytes)) {
-            return Err(CertificateFault {
-                question: Question::Range,
-                byte: section.place + rule.offset as usize,
-            });
+            return Err(Question::Range.at(section.place + usize::from(rule.offset)));
         }
     }
     Ok(())
@@ -60,20 +58,14 @@ pub(crate) fn ask_fields(section: Part<'_>, rules: &[FieldRule]) -> Result<(), C
 pub(crate) fn ask_ratios(section: Part<'_>) -> Result<(), CertificateFault>
     ensures { result ≡ first_no (ratios_asked section.entry.place section.entry.bytes.now) }
 {
-    let depth = u16_at(section.bytes, 0) as u32;
-    let width = u16_at(section.bytes, 2) as u32;
-    let height = u16_at(section.bytes, 4) as u32;
+    let depth = u32::from(u16_at(section.bytes, 0));
+    let width = u32::from(u16_at(section.bytes, 2));
+    let height = u32::from(u16_at(section.bytes, 4));
     if 10 * height > 4 * depth {
-        return Err(CertificateFault {
-            question: Question::Range,
-            byte: section.place + 4,
-        });
+        return Err(Question::Range.at(section.place + 4));
     }
     if 10 * width > 7 * depth {
-        return Err(CertificateFault {
-            question: Question::Range,
-            byte: section.place + 2,
-        });
+        return Err(Question::Range.at(section.place + 2));
     }
     Ok(())
 }

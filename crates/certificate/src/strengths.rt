@@ -25,23 +25,14 @@ fn ask_entry(list: Part<'_>, k: usize) -> Result<(), CertificateFault>
     let at = ENTRY_LENGTH * k;
     let strength = u16_at(list.bytes, at);
     let factor = u16_at(list.bytes, at + 2);
-    if strength < LEAST_STRENGTH || strength > MOST_STRENGTH {
-        return Err(CertificateFault {
-            question: Question::Strengths,
-            byte: list.place + at,
-        });
+    if !(LEAST_STRENGTH..=MOST_STRENGTH).contains(&strength) {
+        return Err(Question::Strengths.at(list.place + at));
     }
     if k > 0 && strength <= u16_at(list.bytes, at - ENTRY_LENGTH) {
-        return Err(CertificateFault {
-            question: Question::Strengths,
-            byte: list.place + at,
-        });
+        return Err(Question::Strengths.at(list.place + at));
     }
-    if factor < LEAST_FACTOR || factor > MOST_FACTOR {
-        return Err(CertificateFault {
-            question: Question::Strengths,
-            byte: list.place + at + 2,
-        });
+    if !(LEAST_FACTOR..=MOST_FACTOR).contains(&factor) {
+        return Err(Question::Strengths.at(list.place + at + 2));
     }
     Ok(())
 }
@@ -50,6 +41,7 @@ fn ask_entry(list: Part<'_>, k: usize) -> Result<(), CertificateFault>
 pub(crate) fn ask_list(list: Part<'_>) -> Result<(), CertificateFault>
     ensures { result ≡ first_no (list_asked list.entry.place list.entry.bytes.now) }
 {
+    // by number: an entry is asked beside the one before it, and its fault names its place
     for k in 0..list.bytes.len() / ENTRY_LENGTH {
         ask_entry(list, k)?;
     }

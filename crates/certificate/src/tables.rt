@@ -1,244 +1,61 @@
 // The numbers of the first two sections, with their ranges, in file order.
-ghost use Rattle.std.specs.Prelude.{◌≡◌};
-ghost use Rattle.certificate.specs.Rules.{geometry_rules, resistance_rules};
-
 use crate::rules::{FieldRule, Width};
 
-// Embedment depth, channel width and height, the factors of cone and edge, each cracked and uncracked, of pry-out, the
-// spacings of the lip in tension and shear, and the moment of inertia.
-const GEOMETRY: [FieldRule; 11] = [
-    FieldRule {
-        offset: 0,
-        width: Width::Two,
-        least: 400,
-        most: 2_500,
-        or_zero: false,
-    },
-    FieldRule {
-        offset: 2,
-        width: Width::Two,
-        least: 150,
-        most: 800,
-        or_zero: false,
-    },
-    FieldRule {
-        offset: 4,
-        width: Width::Two,
-        least: 100,
-        most: 600,
-        or_zero: false,
-    },
-    FieldRule {
-        offset: 6,
-        width: Width::Two,
-        least: 30,
-        most: 130,
-        or_zero: false,
-    },
-    FieldRule {
-        offset: 8,
-        width: Width::Two,
-        least: 30,
-        most: 130,
-        or_zero: false,
-    },
-    FieldRule {
-        offset: 10,
-        width: Width::Two,
-        least: 10,
-        most: 110,
-        or_zero: false,
-    },
-    FieldRule {
-        offset: 12,
-        width: Width::Two,
-        least: 10,
-        most: 110,
-        or_zero: false,
-    },
-    FieldRule {
-        offset: 14,
-        width: Width::Two,
-        least: 10,
-        most: 20,
-        or_zero: false,
-    },
-    FieldRule {
-        offset: 16,
-        width: Width::Two,
-        least: 200,
-        most: 3_000,
-        or_zero: false,
-    },
-    FieldRule {
-        offset: 18,
-        width: Width::Two,
-        least: 200,
-        most: 3_000,
-        or_zero: false,
-    },
-    FieldRule {
-        offset: 20,
-        width: Width::Four,
-        least: 4_000,
-        most: 200_000,
-        or_zero: false,
-    },
-];
-
-// Characteristic values of anchor, connection, lip, bolt, flexure and pull-out, then in shear of bolt, lip, anchor and
-// connection; then the partial factors in the same order without pull-out, and that of concrete.
-const RESISTANCE: [FieldRule; 20] = [
-    FieldRule {
-        offset: 0,
-        width: Width::Four,
-        least: 1_000,
-        most: 500_000,
-        or_zero: false,
-    },
-    FieldRule {
-        offset: 4,
-        width: Width::Four,
-        least: 1_000,
-        most: 500_000,
-        or_zero: false,
-    },
-    FieldRule {
-        offset: 8,
-        width: Width::Four,
-        least: 1_000,
-        most: 500_000,
-        or_zero: false,
-    },
-    FieldRule {
-        offset: 12,
-        width: Width::Four,
-        least: 1_000,
-        most: 500_000,
-        or_zero: false,
-    },
-    FieldRule {
-        offset: 16,
-        width: Width::Four,
-        least: 100,
-        most: 10_000,
-        or_zero: false,
-    },
-    FieldRule {
-        offset: 20,
-        width: Width::Four,
-        least: 1_000,
-        most: 500_000,
-        or_zero: false,
-    },
-    FieldRule {
-        offset: 24,
-        width: Width::Four,
-        least: 1_000,
-        most: 500_000,
-        or_zero: false,
-    },
-    FieldRule {
-        offset: 28,
-        width: Width::Four,
-        least: 1_000,
-        most: 500_000,
-        or_zero: false,
-    },
-    FieldRule {
-        offset: 32,
-        width: Width::Four,
-        least: 1_000,
-        most: 500_000,
-        or_zero: true,
-    },
-    FieldRule {
-        offset: 36,
-        width: Width::Four,
-        least: 1_000,
-        most: 500_000,
-        or_zero: true,
-    },
-    FieldRule {
-        offset: 40,
-        width: Width::Two,
-        least: 100,
-        most: 300,
-        or_zero: false,
-    },
-    FieldRule {
-        offset: 42,
-        width: Width::Two,
-        least: 100,
-        most: 300,
-        or_zero: false,
-    },
-    FieldRule {
-        offset: 44,
-        width: Width::Two,
-        least: 100,
-        most: 300,
-        or_zero: false,
-    },
-    FieldRule {
-        offset: 46,
-        width: Width::Two,
-        least: 100,
-        most: 300,
-        or_zero: false,
-    },
-    FieldRule {
-        offset: 48,
-        width: Width::Two,
-        least: 100,
-        most: 300,
-        or_zero: false,
-    },
-    FieldRule {
-        offset: 50,
-        width: Width::Two,
-        least: 100,
-        most: 300,
-        or_zero: false,
-    },
-    FieldRule {
-        offset: 52,
-        width: Width::Two,
-        least: 100,
-        most: 300,
-        or_zero: false,
-    },
-    FieldRule {
-        offset: 54,
-        width: Width::Two,
-        least: 100,
-        most: 300,
-        or_zero: false,
-    },
-    FieldRule {
-        offset: 56,
-        width: Width::Two,
-        least: 100,
-        most: 300,
-        or_zero: false,
-    },
-    FieldRule {
-        offset: 58,
-        width: Width::Two,
-        least: 100,
-        most: 300,
-        or_zero: false,
-    },
-];
-
-pub(crate) fn geometry_rules() -> &'static [FieldRule]
-    ensures { result.now ≡ geometry_rules }
-{
-    &GEOMETRY
+// A rule: the number's width, where it begins, the least and the most; `or 0` where 0 is lawful besides.
+macro_rules! rule {
+    ($width:ident, $offset:literal, $least:literal, $most:literal) => {
+        FieldRule {
+            offset: $offset,
+            width: Width::$width,
+            least: $least,
+            most: $most,
+            or_zero: false,
+        }
+    };
+    ($width:ident, $offset:literal, $least:literal, $most:literal, or 0) => {
+        FieldRule {
+            offset: $offset,
+            width: Width::$width,
+            least: $least,
+            most: $most,
+            or_zero: true,
+        }
+    };
 }
 
-pub(crate) fn resistance_rules() -> &'static [FieldRule]
-    ensures { result.now ≡ resistance_rules }
-{
-    &RESISTANCE
-}
+pub(crate) const GEOMETRY: [FieldRule; 11] = [
+    rule!(Two, 0, 400, 2_500), // embedment depth
+    rule!(Two, 2, 150, 800), // channel width
+    rule!(Two, 4, 100, 600), // channel height
+    rule!(Two, 6, 30, 130), // cone factor, cracked
+    rule!(Two, 8, 30, 130), // cone factor, uncracked
+    rule!(Two, 10, 10, 110), // edge factor, cracked
+    rule!(Two, 12, 10, 110), // edge factor, uncracked
+    rule!(Two, 14, 10, 20), // pry-out factor
+    rule!(Two, 16, 200, 3_000), // lip spacing in tension
+    rule!(Two, 18, 200, 3_000), // lip spacing in shear
+    rule!(Four, 20, 4_000, 200_000), // moment of inertia
+];
+
+pub(crate) const RESISTANCE: [FieldRule; 20] = [
+    rule!(Four, 0, 1_000, 500_000), // anchor
+    rule!(Four, 4, 1_000, 500_000), // connection
+    rule!(Four, 8, 1_000, 500_000), // lip
+    rule!(Four, 12, 1_000, 500_000), // bolt
+    rule!(Four, 16, 100, 10_000), // flexure
+    rule!(Four, 20, 1_000, 500_000), // pull-out
+    rule!(Four, 24, 1_000, 500_000), // bolt in shear
+    rule!(Four, 28, 1_000, 500_000), // lip in shear
+    rule!(Four, 32, 1_000, 500_000, or 0), // anchor in shear
+    rule!(Four, 36, 1_000, 500_000, or 0), // connection in shear
+    rule!(Two, 40, 100, 300), // partial factor of the anchor
+    rule!(Two, 42, 100, 300), // of the connection
+    rule!(Two, 44, 100, 300), // of the lip
+    rule!(Two, 46, 100, 300), // of the bolt
+    rule!(Two, 48, 100, 300), // of flexure
+    rule!(Two, 50, 100, 300), // of the bolt in shear
+    rule!(Two, 52, 100, 300), // of the lip in shear
+    rule!(Two, 54, 100, 300), // of the anchor in shear
+    rule!(Two, 56, 100, 300), // of the connection in shear
+    rule!(Two, 58, 100, 300), // of concrete
+];

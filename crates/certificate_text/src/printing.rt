@@ -1,7 +1,6 @@
 // From a certificate to its text.
 ghost use Rattle.std.specs.Prelude.{◌≡◌, IfOk, Ok, string_bytes};
 ghost use Rattle.certificate.specs.Content.{content_of, entries};
-ghost use Rattle.certificate.specs.Reading.{refusal};
 ghost use Rattle.certificate_text.specs.Names.{fields};
 ghost use Rattle.certificate_text.specs.Parsed.{parsed};
 ghost use Rattle.certificate_text.specs.Printed.{field_text, entry_text, fields_text, list_text, text_of, rated_content, Bytes};
@@ -58,8 +57,8 @@ fn list_text(heap: Global, name: &str, list: &[u8]) -> Result<String, AllocError
 // The text of a certificate that was read.
 pub fn print(heap: Global, certificate: &Certificate<'_>) -> Result<String, AllocError>
     ensures text { IfOk result (λ s. string_bytes s ≡ text_of (rated_content certificate.now.bytes.now)) }
-    ensures lawful { refusal certificate.now.bytes.now ≡ Ok tt → IfOk result (λ s. string_bytes s ≡ text_of (content_of certificate.now.bytes.now)) }
-    ensures back { refusal certificate.now.bytes.now ≡ Ok tt → IfOk result (λ s. parsed (string_bytes s) ≡ Ok (content_of certificate.now.bytes.now)) }
+    ensures lawful { IfOk result (λ s. string_bytes s ≡ text_of (content_of certificate.now.bytes.now)) }
+    ensures back { IfOk result (λ s. parsed (string_bytes s) ≡ Ok (content_of certificate.now.bytes.now)) }
 {
     let edition = edition_number(certificate.edition());
     let numbers = numbers_from(

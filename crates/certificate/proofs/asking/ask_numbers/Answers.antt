@@ -6,6 +6,7 @@ use Rattle.certificate.specs.Rules.{fields_asked, geometry_rules, resistance_rul
 use Rattle.certificate.specs.declared.rules.FieldRule.{FieldRule}
 use Rattle.certificate.specs.declared.layout.Section.TheVariants.{Geometry, Resistance}
 use Rattle.certificate.proofs.Firsts.{first_no_then, first_no_stop}
+use Rattle.certificate.proofs.RuleTables.{geometry_table, resistance_table}
 use Rattle.certificate.proofs.asking.ask_numbers.Goals as goal
 
 abbrev geometry : List ℕ → Asked
@@ -28,21 +29,21 @@ pub returns-in_err-ask_fields : goal.returns-in_err-ask_fields
 returns-in_err-ask_fields c =
     let p = err_from_is_err_and c.from_residual.result c.from_residual.ensures.1 in
     let bs : List ℕ = c.args.bytes.now in
-    let e : first_no (geometry bs) ≡ Err c.in_err-ask_fields.field-0.0 = sym (same_fields _ _ _ _ _ _ c.part_of-geometry.ensures.place c.part_of-geometry.ensures.bytes c.geometry_rules.ensures) ∙ sym c.ask_fields.ensures ∙ c.in_err-ask_fields.was in
+    let e : first_no (geometry bs) ≡ Err c.in_err-ask_fields.field-0.0 = sym (same_fields _ _ _ _ _ _ c.part_of-geometry.ensures.place c.part_of-geometry.ensures.bytes geometry_table) ∙ sym c.ask_fields.ensures ∙ c.in_err-ask_fields.was in
     rw (p.1, p.2) (sym (first_no_stop (geometry bs) (resistance bs ++ ratios bs) _ e))
 
 pub returns-in_err-ask_fields-2 : goal.returns-in_err-ask_fields-2
 returns-in_err-ask_fields-2 c =
     let p = err_from_is_err_and c.from_residual-in_err-ask_fields-2.result c.from_residual-in_err-ask_fields-2.ensures.1 in
     let bs : List ℕ = c.args.bytes.now in
-    let d : first_no (geometry bs) ≡ Ok tt = sym (same_fields _ _ _ _ _ _ c.part_of-geometry.ensures.place c.part_of-geometry.ensures.bytes c.geometry_rules.ensures) ∙ sym c.ask_fields.ensures ∙ c.in_ok-ask_fields.was in
-    let e : first_no (resistance bs) ≡ Err c.in_err-ask_fields-2.field-0.0 = sym (same_fields _ _ _ _ _ _ c.part_of.ensures.place c.part_of.ensures.bytes c.resistance_rules.ensures) ∙ sym c.ask_fields-2.ensures ∙ c.in_err-ask_fields-2.was in
+    let d : first_no (geometry bs) ≡ Ok tt = sym (same_fields _ _ _ _ _ _ c.part_of-geometry.ensures.place c.part_of-geometry.ensures.bytes geometry_table) ∙ sym c.ask_fields.ensures ∙ c.in_ok-ask_fields.was in
+    let e : first_no (resistance bs) ≡ Err c.in_err-ask_fields-2.field-0.0 = sym (same_fields _ _ _ _ _ _ c.part_of.ensures.place c.part_of.ensures.bytes resistance_table) ∙ sym c.ask_fields-2.ensures ∙ c.in_err-ask_fields-2.was in
     rw (p.1, p.2) (sym (first_no_then (geometry bs) (resistance bs ++ ratios bs) d ∙ first_no_stop (resistance bs) (ratios bs) _ e))
 
 pub returns : goal.returns
 returns c =
     let bs : List ℕ = c.args.bytes.now in
-    let d : first_no (geometry bs) ≡ Ok tt = sym (same_fields _ _ _ _ _ _ c.part_of-geometry.ensures.place c.part_of-geometry.ensures.bytes c.geometry_rules.ensures) ∙ sym c.ask_fields.ensures ∙ c.in_ok-ask_fields.was in
-    let e : first_no (resistance bs) ≡ Ok tt = sym (same_fields _ _ _ _ _ _ c.part_of.ensures.place c.part_of.ensures.bytes c.resistance_rules.ensures) ∙ sym c.ask_fields-2.ensures ∙ c.in_ok-ask_fields-2.was in
+    let d : first_no (geometry bs) ≡ Ok tt = sym (same_fields _ _ _ _ _ _ c.part_of-geometry.ensures.place c.part_of-geometry.ensures.bytes geometry_table) ∙ sym c.ask_fields.ensures ∙ c.in_ok-ask_fields.was in
+    let e : first_no (resistance bs) ≡ Ok tt = sym (same_fields _ _ _ _ _ _ c.part_of.ensures.place c.part_of.ensures.bytes resistance_table) ∙ sym c.ask_fields-2.ensures ∙ c.in_ok-ask_fields-2.was in
     let f : c.ask_ratios.result ≡ first_no (ratios bs) = c.ask_ratios.ensures ∙ same_ratios _ _ _ _ c.part_of-geometry.ensures.place c.part_of-geometry.ensures.bytes in
     f ∙ sym (first_no_then (geometry bs) (resistance bs ++ ratios bs) d ∙ first_no_then (resistance bs) (ratios bs) e)

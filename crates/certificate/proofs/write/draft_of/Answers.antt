@@ -1,17 +1,18 @@
+use Rattle.std.proofs.Common.{rules, append_assoc, arith}
 use Rattle.certificate.specs.Writing.{written}
-use Rattle.certificate.proofs.Written.{joined_parts}
 use Rattle.certificate.proofs.write.draft_of.Goals as goal
 
-pub returns : goal.returns
+pub returns-clause-after : goal.returns-clause-after
 unfolding written
-returns c = record {
-  after = joined_parts _ _ _ _ _ _ _ _ _ _ _ _ _ c.new-draft.ensures.after c.put_head.ensures.after c.put_geometry.ensures.after c.put_values.ensures.after c.put_factors.ensures.after c.put_entries.ensures.after c.put_entries-2.ensures.after;
-  fits = record {
-    shorts = c.put_geometry.ensures.shorts;
-    inertia = c.put_geometry.ensures.inertia;
-    values = c.put_values.ensures.fits;
-    factors = c.put_factors.ensures.fits;
-    cracked = c.put_entries.ensures.fits;
-    uncracked = c.put_entries-2.ensures.fits;
-  };
-}
+returns-clause-after c = search (rules, append_assoc)
+
+pub returns-clause-fits : goal.returns-clause-fits
+returns-clause-fits c =
+    record {
+      shorts = rw c.geometry_shorts.ensures at c.put-3.ensures.fits;
+      inertia = c.put-4.ensures.fits 0 0 (omega arith);
+      values = rw c.values_list.ensures at c.put-5.ensures.fits;
+      factors = rw c.factors_list.ensures at c.put-6.ensures.fits;
+      cracked = c.put-7.ensures.fits;
+      uncracked = c.put-8.ensures.fits;
+    }

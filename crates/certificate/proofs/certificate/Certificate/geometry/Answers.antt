@@ -1,10 +1,5 @@
-use Rattle.std.proofs.Common.{sym, ap, ◌∙◌, subst}
-use Rattle.certificate.specs.Content.{geometry_of}
-use Rattle.certificate.specs.Ranges.{GeometryInRange}
 use Rattle.certificate.proofs.Sound.{geometry_in_range}
 use Rattle.certificate.proofs.certificate.Certificate.geometry.Goals as goal
 
-pub returns : goal.returns
-returns c =
-    let e = c.geometry_in.ensures ∙ ap geometry_of c.section.ensures.bytes in
-    record { value = e; lawful = λ h. subst GeometryInRange (sym e) (geometry_in_range c.args.self.now.bytes.now h) }
+pub returns-clause-lawful : goal.returns-clause-lawful
+returns-clause-lawful c = rw (c.geometry_in.ensures, c.section.ensures.bytes) (geometry_in_range _ c.args.self.now.accepted)

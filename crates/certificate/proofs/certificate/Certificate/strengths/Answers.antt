@@ -1,11 +1,5 @@
-use Rattle.std.proofs.Common.{sym, ap, ◌∙◌, subst}
-use Rattle.certificate.specs.Layout.{offset, section_of}
-use Rattle.certificate.specs.Ranges.{ListInRange}
 use Rattle.certificate.proofs.Sound.{list_in_range}
 use Rattle.certificate.proofs.certificate.Certificate.strengths.Goals as goal
 
-pub returns : goal.returns
-returns c =
-    let bs = c.args.self.now.bytes.now in
-    let e = c.section-2.ensures.bytes ∙ ap (section_of bs) c.section.ensures in
-    record { place = c.section-2.ensures.place ∙ ap (offset bs) c.section.ensures; bytes = e; lawful = λ h. subst ListInRange (sym e) (list_in_range bs c.args.concrete h) }
+pub returns-clause-lawful : goal.returns-clause-lawful
+returns-clause-lawful c = rw (c.section.ensures.bytes, c.from.ensures) (list_in_range _ c.args.concrete c.args.self.now.accepted)
