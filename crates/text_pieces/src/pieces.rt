@@ -7,26 +7,10 @@ ghost use Rattle.text_pieces.specs.Pieces.{FirstOf, CutAt, lines, words, words_a
 pub fn place_of(bytes: &[u8], wanted: u8) -> usize
     ensures { FirstOf wanted bytes.now result }
 {
-    for (i, byte) in bytes.iter().enumerate() {
-        if *byte == wanted {
-            return i;
-        }
-    }
-    bytes.len()
-}
-
-// Where the first line of a text ends.
-fn line_end(text: &[u8]) -> usize
-    ensures { FirstOf 10 text.now result }
-{
-    place_of(text, b'\n')
-}
-
-// Where the first word of a line ends.
-fn word_end(line: &[u8]) -> usize
-    ensures { FirstOf 32 line.now result }
-{
-    place_of(line, b' ')
+    bytes
+        .iter()
+        .position(|byte| *byte == wanted)
+        .unwrap_or(bytes.len())
 }
 
 // The first line of a text, without its line feed, and what follows it.
@@ -45,20 +29,11 @@ pub fn cut_line<'a>(text: &'a [u8]) -> Option<LineCut<'a>>
     if text.is_empty() {
         return None;
     }
-    let end = line_end(text);
-    let line = &text[0..end];
-    if end == text.len() {
-        Some(LineCut {
-            line,
-            rest: &text[end..],
-        })
-    } else {
-        let next = end + 1;
-        Some(LineCut {
-            line,
-            rest: &text[next..],
-        })
-    }
+    let end = place_of(text, b'\n');
+    Some(LineCut {
+        line: &text[..end],
+        rest: text.get(end + 1..).unwrap_or(&[]),
+    })
 }
 
 // The first word of a line, and what follows its space; none where the line has no space.
@@ -73,15 +48,9 @@ pub fn cut_word<'a>(line: &'a [u8]) -> WordCut<'a>
     ensures words { words line.now ≡ result.word.now ∷ words_after (option_map (λ x. x.now) result.rest) }
     ensures joined { WordsOf line.now (words line.now) }
 {
-    let end = word_end(line);
-    let word = &line[0..end];
-    if end == line.len() {
-        WordCut { word, rest: None }
-    } else {
-        let next = end + 1;
-        WordCut {
-            word,
-            rest: Some(&line[next..]),
-        }
+    let end = place_of(line, b' ');
+    WordCut {
+        word: &line[..end],
+        rest: line.get(end + 1..),
     }
 }
