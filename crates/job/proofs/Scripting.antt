@@ -19,11 +19,6 @@ script_more ls i d ks js all lt is inv =
 pub script_all : (ls : List (Option JobLine)) (i : ℕ) (ks all : List Call) → length ls ≤ i → ks ++ script (drop i ls) ≡ all → ks ≡ all
 script_all ls i ks all le inv = sym (append-nil ks) ∙ ap (λ xs. ks ++ script xs) (sym (drop_all i ls le)) ∙ inv
 
--- what the lines so far say, and those left; with one line more they say the same
-pub said_more : (f : List ℕ → Option JobLine) (xs ys : List (Option JobLine)) (l : List ℕ) (ls ms : List (List ℕ)) (all : List (Option JobLine)) → ys ≡ xs ++ (f l ∷ []) → ls ≡ l ∷ ms → xs ++ map f ls ≡ all → ys ++ map f ms ≡ all
-said_more f xs ys l ls ms all is cut inv =
-    ap (λ zs. zs ++ map f ms) is ∙ append_assoc xs (f l ∷ []) (map f ms) ∙ ap (λ zs. xs ++ map f zs) (sym cut) ∙ inv
-
 -- the outcomes so far and those of the lines left are all outcomes; with one line more they are
 pub told_more : (ls : List (Option JobLine)) (i : ℕ) (d : Option JobLine) (os qs all : List Outcome) (gs hs : List Answer) → i < length ls → qs ≡ os ++ outcome (i + 1) (get_or ls i d) gs → hs ≡ drop (length (calls_of (get_or ls i d))) gs → os ++ outcomes (i + 1) (drop i ls) gs ≡ all → qs ++ outcomes (i + 1 + 1) (drop (i + 1) ls) hs ≡ all
 told_more ls i d os qs all gs hs lt is rest inv =

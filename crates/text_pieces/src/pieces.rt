@@ -1,5 +1,6 @@
 // The lines of a text, and the words of a line.
 ghost use Rattle.std.specs.Prelude.{◌≡◌, ◌<◌, [], ◌∷◌, length, MatchOption};
+ghost use Rattle.std.specs.Iterator.{YieldsFirstRef, item_count};
 ghost use Rattle.std.specs.Option.{option_map};
 ghost use Rattle.text_pieces.specs.Pieces.{FirstOf, CutAt, lines, words, words_after, WordsOf};
 
@@ -34,6 +35,34 @@ pub fn cut_line<'a>(text: &'a [u8]) -> Option<LineCut<'a>>
         line: &text[..end],
         rest: text.get(end + 1..).unwrap_or(&[]),
     })
+}
+
+// The lines of a text, one after the other.
+#[derive(Clone, Copy)]
+pub struct Lines<'a> {
+    rest: &'a [u8],
+}
+
+impl<'a> Lines<'a> {
+    pub fn new(text: &'a [u8]) -> Lines<'a>
+        ensures { result.rest.now ≡ text.now }
+    {
+        Lines { rest: text }
+    }
+}
+
+impl<'a> Iterator for Lines<'a> {
+    type Item = &'a [u8];
+
+    ghost next_gives = { YieldsFirstRef (λ s. lines s.rest.now) };
+
+    ghost remaining = { item_count (λ s. lines s.rest.now) };
+
+    fn next(&mut self) -> Option<&'a [u8]> {
+        let cut = cut_line(self.rest)?;
+        self.rest = cut.rest;
+        Some(cut.line)
+    }
 }
 
 // The first word of a line, and what follows its space; none where the line has no space.
