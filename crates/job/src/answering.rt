@@ -19,6 +19,7 @@ pub(crate) fn answers_on(
 ) -> Result<Vec<Answer>, JobFault>
     ensures { MatchResult result (λ v. Promise (channel_lines prepared.now.sheet) prepared.now.opening calls.now v.items) (λ e. e ≡ Memory) }
 {
+    // a match: through map_err it stays open which fault the result has
     match answer_session(heap, &prepared.sheet, prepared.opening, calls) {
         Ok(answers) => Ok(answers),
         Err(Fault::Memory) => Err(JobFault::Memory),

@@ -1,5 +1,6 @@
 // Why a job, or a line of it, is refused.
-ghost use Rattle.std.specs.Prelude.{◌≡◌};
+ghost use Rattle.std.specs.Prelude.{◌≡◌, Some};
+ghost use Rattle.job.specs.Printed.{refusal_words};
 ghost use Rattle.job.specs.Refusals.{number, place, lifted};
 ghost use Rattle.job.specs.declared.fault.JobFault.TheVariants.{Refused as JobRefused, Memory};
 ghost use Rattle.job.specs.declared.fault.JobRefusal.TheVariants.{Certificate};
@@ -8,12 +9,11 @@ use bolts::refusal::Refusal;
 use certificate::fault::CertificateFault;
 use rating::fault::SheetFault;
 use std::alloc::AllocError;
-
-const STRENGTH_QUESTION: u8 = 6;
+use std::fmt;
 
 const LINE_QUESTION: u8 = 16;
 
-const FIRST_LINE: usize = 1;
+pub(crate) const FIRST_LINE: usize = 1;
 
 // The question that was answered no, and where; lines count from 1.
 #[derive(Clone, Copy, Debug, PartialEq, Eq)]
@@ -36,7 +36,7 @@ impl JobRefusal {
         match self {
             JobRefusal::Certificate(fault) => fault.question.number(),
             JobRefusal::Case { refusal, line: _ } => refusal.number(),
-            JobRefusal::Strength { line: _ } => STRENGTH_QUESTION,
+            JobRefusal::Strength { line: _ } => SheetFault::Strength.number(),
             JobRefusal::Line { line: _ } => LINE_QUESTION,
         }
     }
@@ -47,10 +47,20 @@ impl JobRefusal {
     {
         match self {
             JobRefusal::Certificate(fault) => fault.byte,
-            JobRefusal::Case { refusal: _, line } => line,
-            JobRefusal::Strength { line } => line,
-            JobRefusal::Line { line } => line,
+            JobRefusal::Case { refusal: _, line }
+            | JobRefusal::Strength { line }
+            | JobRefusal::Line { line } => line,
         }
+    }
+}
+
+impl fmt::Display for JobRefusal {
+    ghost output = { λ r. Some (refusal_words r) };
+
+    fn fmt<W: fmt::Write>(&self, f: &mut fmt::Formatter<W>) -> fmt::Result {
+        let number = self.number();
+        let place = self.place();
+        write!(f, "refused {number} {place}")
     }
 }
 

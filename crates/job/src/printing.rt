@@ -2,45 +2,12 @@
 ghost use Rattle.std.specs.Prelude.{◌≡◌, IfOk, string_bytes};
 ghost use Rattle.std.specs.List.{flat_map};
 ghost use Rattle.job.specs.Jobs.{PrintsFault, Printed};
-ghost use Rattle.job.specs.Printed.{word, verdict_text, refusal_text, outcome_text};
+ghost use Rattle.job.specs.Printed.{outcome_text};
 
-use crate::fault::{JobFault, JobRefusal};
+use crate::fault::JobFault;
 use crate::outcome::Outcome;
 use crate::running::run_job;
 use std::alloc::{AllocError, Global};
-use verdict::answer::Verdict;
-
-fn verdict_text(heap: Global, verdict: Verdict) -> Result<String, AllocError>
-    ensures { IfOk result (λ s. string_bytes s ≡ verdict_text verdict) }
-{
-    let word = if verdict.accepted {
-        "accepted"
-    } else {
-        "rejected"
-    };
-    let utilisation = verdict.governing.utilisation;
-    let line = verdict.governing.line;
-    let place = verdict.governing.place;
-    let failed = verdict.failed_check;
-    format!(in heap; "{word} {utilisation} {line} {place} {failed}\n")
-}
-
-fn refusal_text(heap: Global, refusal: JobRefusal) -> Result<String, AllocError>
-    ensures { IfOk result (λ s. string_bytes s ≡ refusal_text refusal) }
-{
-    let number = refusal.number();
-    let place = refusal.place();
-    format!(in heap; "refused {number} {place}\n")
-}
-
-fn outcome_text(heap: Global, outcome: Outcome) -> Result<String, AllocError>
-    ensures { IfOk result (λ s. string_bytes s ≡ outcome_text outcome) }
-{
-    match outcome {
-        Outcome::Rated(verdict) => verdict_text(heap, verdict),
-        Outcome::Refused(refusal) => refusal_text(heap, refusal),
-    }
-}
 
 // A line for each outcome.
 pub fn print(heap: Global, outcomes: &[Outcome]) -> Result<String, AllocError>
@@ -48,8 +15,7 @@ pub fn print(heap: Global, outcomes: &[Outcome]) -> Result<String, AllocError>
 {
     let mut out = String::new(heap);
     for outcome in outcomes {
-        let line = outcome_text(heap, *outcome)?;
-        out.push_str(line.as_str())?;
+        writeln!(out, "{outcome}")?;
     }
     Ok(out)
 }

@@ -1,11 +1,12 @@
 // Running a job.
-ghost use Rattle.std.specs.Prelude.{◌≡◌, ◌<◌, length, drop, MatchResult};
+ghost use Rattle.std.specs.Prelude.{◌≡◌, [], ◌∷◌, Some, MatchResult};
+ghost use Rattle.job_text.specs.declared.line.JobLine.TheVariants.{Site};
 ghost use Rattle.job.specs.declared.fault.JobFault.TheVariants.{Refused, Memory};
 ghost use Rattle.job.specs.declared.fault.JobRefusal.TheVariants.{Line};
-ghost use Rattle.job.specs.Jobs.{BeginsWith, WithoutSite, RatedBy, RanAs, Ran};
+ghost use Rattle.job.specs.Jobs.{WithoutSite, RatedBy, RanAs, Ran};
 
 use crate::answering::answers_on;
-use crate::fault::{JobFault, JobRefusal};
+use crate::fault::{FIRST_LINE, JobFault, JobRefusal};
 use crate::outcome::Outcome;
 use crate::said::said_lines;
 use crate::script::script_of;
@@ -16,14 +17,11 @@ use rating::prepared::Prepared;
 use site::numbers::SiteNumbers;
 use std::alloc::Global;
 
-const FIRST_LINE: usize = 1;
-
 // The numbers of the site, which the first line says.
-fn first_site(said: &[Option<JobLine>]) -> Result<SiteNumbers, JobFault>
-    requires { 0 < length said.now }
-    ensures { MatchResult result (λ n. BeginsWith said.now (λ m. m ≡ n)) (λ e. (e ≡ Refused (Line 1)) × WithoutSite said.now) }
+fn first_site(first: Option<JobLine>) -> Result<SiteNumbers, JobFault>
+    ensures { MatchResult result (λ n. first ≡ Some (Site n)) (λ e. (e ≡ Refused (Line 1)) × WithoutSite (first ∷ [])) }
 {
-    match said[0] {
+    match first {
         Some(JobLine::Site(numbers)) => Ok(numbers),
         _ => Err(JobFault::Refused(JobRefusal::Line { line: FIRST_LINE })),
     }
@@ -33,14 +31,13 @@ fn first_site(said: &[Option<JobLine>]) -> Result<SiteNumbers, JobFault>
 fn rated(
     heap: Global,
     prepared: &Prepared,
-    said: &[Option<JobLine>],
+    lines: &[Option<JobLine>],
 ) -> Result<Vec<Outcome>, JobFault>
-    requires { 0 < length said.now }
-    ensures { MatchResult result (λ v. RatedBy prepared.now (drop 1 said.now) v.items) (λ e. e ≡ Memory) }
+    ensures { MatchResult result (λ v. RatedBy prepared.now lines.now v.items) (λ e. e ≡ Memory) }
 {
-    let calls = script_of(heap, &said[1..])?;
+    let calls = script_of(heap, lines)?;
     let answers = answers_on(heap, prepared, &calls)?;
-    Ok(outcomes_of(heap, said, &answers)?)
+    Ok(outcomes_of(heap, lines, &answers)?)
 }
 
 // The outcomes of a job whose lines say this.
@@ -53,12 +50,12 @@ fn run_said(
 {
     // asked before any line, so that a refused certificate is told whatever the lines say
     let _ = Certificate::read(certificate)?;
-    if said.is_empty() {
+    let Some((first, lines)) = said.split_first() else {
         return Ok(Vec::new(heap));
-    }
-    let site = first_site(said)?;
+    };
+    let site = first_site(*first)?;
     let prepared = Prepared::new(certificate, site)?;
-    rated(heap, &prepared, said)
+    rated(heap, &prepared, lines)
 }
 
 // The outcomes of a job, line by line. A refused certificate or a refused first line ends it.

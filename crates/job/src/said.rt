@@ -5,16 +5,12 @@ ghost use Rattle.job_text.specs.Lines.{job_line};
 
 use job_text::line::JobLine;
 use std::alloc::{AllocError, Global};
-use text_pieces::pieces::cut_line;
+use text_pieces::pieces::Lines;
 
 pub(crate) fn said_lines(heap: Global, text: &[u8]) -> Result<Vec<Option<JobLine>>, AllocError>
     ensures { IfOk result (λ v. v.items ≡ map job_line (lines text.now)) }
 {
-    let mut said = Vec::new(heap);
-    let mut rest = text;
-    while let Some(cut) = cut_line(rest) {
-        said.push(JobLine::parse(cut.line))?;
-        rest = cut.rest;
-    }
-    Ok(said)
+    Lines::new(text)
+        .map(|line| JobLine::parse(line))
+        .collect(heap)
 }

@@ -7,7 +7,7 @@ use job_text::line::JobLine;
 use std::alloc::{AllocError, Global};
 
 // A rating closes the case, rates it and reopens it.
-const RATING: [Call; 3] = [Call::Close, Call::Rate, Call::Reopen];
+pub(crate) const RATING: [Call; 3] = [Call::Close, Call::Rate, Call::Reopen];
 
 // Adds the calls of one line: none for a line that is refused.
 fn add_calls(calls: &mut Vec<Call>, said: Option<JobLine>) -> Result<(), AllocError>

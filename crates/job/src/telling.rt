@@ -1,14 +1,18 @@
 // From the answers to the calls of a job's lines to the outcomes.
-ghost use Rattle.std.specs.Prelude.{◌≡◌, true, ◌++◌, length, drop, is_ok, IfOk};
+ghost use Rattle.std.specs.Prelude.{◌≡◌, length, drop, IfOk};
 ghost use Rattle.std.specs.Option.{option_to_list};
 ghost use Rattle.job.specs.Scripts.{calls_of};
 ghost use Rattle.job.specs.Telling.{answer_at, told, outcome, outcomes};
 
 use crate::fault::JobRefusal;
 use crate::outcome::Outcome;
+use crate::script::RATING;
 use history::call::Answer;
 use job_text::line::JobLine;
 use std::alloc::{AllocError, Global};
+
+// The number of the line after the site.
+const SECOND_LINE: usize = 2;
 
 // The answer of a rating is the second of its three.
 const RATED: usize = 1;
@@ -16,11 +20,7 @@ const RATED: usize = 1;
 fn answer_at(answers: &[Answer], k: usize) -> Answer
     ensures { result ≡ answer_at answers.now k }
 {
-    if k < answers.len() {
-        answers[k]
-    } else {
-        Answer::Done
-    }
+    answers.get(k).copied().unwrap_or(Answer::Done)
 }
 
 // What an answer tells of a line.
@@ -51,7 +51,7 @@ fn count_of(said: Option<JobLine>) -> usize
 {
     match said {
         Some(JobLine::Place(_)) | Some(JobLine::Lift(_)) => 1,
-        Some(JobLine::Rate) => 3,
+        Some(JobLine::Rate) => RATING.len(),
         Some(JobLine::Site(_)) | None => 0,
     }
 }
@@ -60,35 +60,22 @@ fn count_of(said: Option<JobLine>) -> usize
 fn past(answers: &[Answer], count: usize) -> &[Answer]
     ensures { result.now ≡ drop count answers.now }
 {
-    if count <= answers.len() {
-        &answers[count..]
-    } else {
-        &[]
-    }
-}
-
-fn add_outcome(outcomes: &mut Vec<Outcome>, outcome: Option<Outcome>) -> Result<(), AllocError>
-    ensures { is_ok result ≡ true → outcomes.new.items ≡ outcomes.old.items ++ option_to_list outcome }
-{
-    if let Some(outcome) = outcome {
-        outcomes.push(outcome)?;
-    }
-    Ok(())
+    answers.get(count..).unwrap_or(&[])
 }
 
 // The outcomes of the lines after the first, from the answers to their calls.
 pub(crate) fn outcomes_of(
     heap: Global,
-    said: &[Option<JobLine>],
+    lines: &[Option<JobLine>],
     answers: &[Answer],
 ) -> Result<Vec<Outcome>, AllocError>
-    ensures { IfOk result (λ v. v.items ≡ outcomes 2 (drop 1 said.now) answers.now) }
+    ensures { IfOk result (λ v. v.items ≡ outcomes 2 lines.now answers.now) }
 {
     let mut outcomes = Vec::new(heap);
     let mut left = answers;
-    for i in 1..said.len() {
-        add_outcome(&mut outcomes, outcome_of(i + 1, said[i], left))?;
-        left = past(left, count_of(said[i]));
+    for (i, line) in lines.iter().enumerate() {
+        outcomes.extend(outcome_of(i + SECOND_LINE, *line, left))?;
+        left = past(left, count_of(*line));
     }
     Ok(outcomes)
 }

@@ -6,6 +6,7 @@ use Rattle.std.specs.Str.{bytes_eq}
 use Rattle.std.proofs.lemmas.List.Elements.{recursion_from_All}
 use Rattle.std.proofs.lemmas.List.FromFn.{fill_by_all}
 use Rattle.std.proofs.lemmas.Slice.Eq.{bytes_eq-Decides}
+use Rattle.std.proofs.lemmas.Option.{none-some, same_Some}
 use Rattle.std.proofs.lemmas.Bool.{eq-eqb, eqb-true, cond-true}
 use Rattle.text_pieces.specs.Numerals.{number_in}
 use Rattle.text_pieces.specs.Pieces.{words, after_spaces, spaced}
@@ -23,26 +24,20 @@ by_test : {A : Type 0} (t : Bool) (x y : Option A) (a : A) → cond t x y ≡ So
 by_test true x y a e = inl (refl, e)
 by_test false x y a e = inr e
 
-never : {A : Type 0} (a : A) → ◌≡◌ {A = Option A} None (Some a) → ⊥
-never a e = let z : ◌≡◌ {A = ℕ} 0 1 = cc in omega arith
-
-same_some : {A : Type 0} (a b : A) → ◌≡◌ {A = Option A} (Some a) (Some b) → a ≡ b
-same_some a b e = cc
-
 -- what was mapped
 mapped_from : {A B : Type 0} (f : A → B) (o : Option A) (b : B) → option_map f o ≡ Some b → (a : A) × (o ≡ Some a) × (f a ≡ b)
-mapped_from f None b e = absurd (never b e)
-mapped_from f (Some a) b e = (a, refl, same_some (f a) b e)
+mapped_from f None b e = absurd (none-some b e)
+mapped_from f (Some a) b e = (a, refl, same_Some (f a) b e)
 
 -- a number before others
 ahead_from : (o : Option ℕ) (p : Option (List ℕ)) (ns : List ℕ) → ahead o p ≡ Some ns → (m : ℕ) × (ms : List ℕ) × (o ≡ Some m) × (p ≡ Some ms) × (m ∷ ms ≡ ns)
-ahead_from None p ns e = absurd (never ns e)
-ahead_from (Some m) None ns e = absurd (never ns e)
-ahead_from (Some m) (Some ms) ns e = (m, ms, refl, refl, same_some (m ∷ ms) ns e)
+ahead_from None p ns e = absurd (none-some ns e)
+ahead_from (Some m) None ns e = absurd (none-some ns e)
+ahead_from (Some m) (Some ms) ns e = (m, ms, refl, refl, same_Some (m ∷ ms) ns e)
 
 -- as many numbers as words, and no word has a space
 length_numbers : (ws : List (List ℕ)) (ns : List ℕ) → numbers_in ws ≡ Some ns → length ws ≡ length ns
-length_numbers [] ns e = ap length (same_some [] ns e)
+length_numbers [] ns e = ap length (same_Some [] ns e)
 length_numbers (w ∷ ws) ns e =
     let (m, ms, a, b, g) = ahead_from (number_in w) (numbers_in ws) ns e in
     omega (arith, length_numbers ws ms b, ap length g)
@@ -59,7 +54,7 @@ unfolding exactly
 exactly_from n ws ns e =
     ⊎_elim
     (λ (h : (eqb (length ws) n ≡ true) × (numbers_in ws ≡ Some ns)). (h.1, sym (length_numbers ws ns h.1) ∙ eqb-true (length ws) n h.0))
-    (λ (h : None ≡ Some ns). absurd (never ns h))
+    (λ (h : None ≡ Some ns). absurd (none-some ns h))
     (by_test (eqb (length ws) n) (numbers_in ws) None ns e)
 
 exactly_to : (n : ℕ) (ws : List (List ℕ)) (ns : List ℕ) → numbers_in ws ≡ Some ns → length ns ≡ n → exactly n ws ≡ Some ns
@@ -95,7 +90,7 @@ called_from w ws j e =
     (λ (e₄ : cond (bytes_eq w (codes "rate")) (rate_line ws) None ≡ Some j).
     ⊎_elim
     (λ (h : (bytes_eq w (codes "rate") ≡ true) × (rate_line ws ≡ Some j)). meant w ws j (codes "rate") 0 (λ ns. Rate) h.0 h.1 (λ ns. refl) (λ ns. refl))
-    (λ (h : None ≡ Some j). absurd (never j h))
+    (λ (h : None ≡ Some j). absurd (none-some j h))
     (by_test (bytes_eq w (codes "rate")) (rate_line ws) None j e₄))
     (by_test (bytes_eq w (codes "lift")) (lift_line ws) _ j e₃))
     (by_test (bytes_eq w (codes "place")) (place_line ws) _ j e₂))

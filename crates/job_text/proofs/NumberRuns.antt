@@ -1,7 +1,7 @@
 -- Words read one after the other as numbers.
-use Rattle.std.proofs.Common.{◌≡◌, ℕ, zero, suc, ◌+◌, ◌<◌, ◌≤◌, Bool, true, false, cond, eqb, List, [], ◌∷◌, ◌++◌, length, take, set, Some, None, Option, sym, refl, ap, ◌∙◌, add-one, arith}
+use Rattle.std.proofs.Common.{◌≡◌, ℕ, ◌+◌, ◌<◌, ◌≤◌, Bool, true, false, cond, eqb, List, [], ◌∷◌, ◌++◌, length, take, set, Some, None, Option, sym, refl, ap, ◌∙◌, arith}
 use Rattle.std.specs.Option.{option_map}
-use Rattle.std.proofs.lemmas.List.{append_assoc, append-nil, take_all}
+use Rattle.std.proofs.lemmas.List.{append_assoc, append-nil, take_all, take_more_set}
 use Rattle.std.proofs.lemmas.Bool.{eq-eqb, ne_eqb, cond-true, cond-false}
 use Rattle.text_pieces.specs.Numerals.{number_in}
 use Rattle.text_pieces.specs.Pieces.{words}
@@ -24,25 +24,19 @@ mapped_same (Some ns) = refl
 pub read_none : (all : List (List ℕ)) (numbers : List ℕ) → Read all all numbers 0
 read_none all numbers = record { values = mapped_same (numbers_in all); count = omega arith }
 
-front_set : (xs : List ℕ) (k n : ℕ) → k < length xs → take (suc k) (set xs k n) ≡ take k xs ++ (n ∷ [])
-front_set [] k n h = absurd (omega arith)
-front_set (x ∷ xs) zero n h = refl
-front_set (x ∷ xs) (suc k) n h = ap (λ (ys : List ℕ). x ∷ ys) (front_set xs k n (omega arith))
-
 ahead_more : (xs : List ℕ) (n : ℕ) (o : Option (List ℕ)) → following xs (ahead (Some n) o) ≡ following (xs ++ (n ∷ [])) o
 ahead_more xs n None = refl
 ahead_more xs n (Some ms) = ap Some (sym (append_assoc xs (n ∷ []) ms))
 
 pub read_more : (all left rest : List (List ℕ)) (w : List ℕ) (numbers : List ℕ) (k n : ℕ) → Read all left numbers k → left ≡ w ∷ rest → number_in w ≡ Some n → k < length numbers → Read all rest (set numbers k n) (k + 1)
 read_more all left rest w numbers k n r e f h =
-    let front = front_set numbers k n h in
     record {
       values =
           r.values
           ∙ ap (λ (ws : List (List ℕ)). following (take k numbers) (numbers_in ws)) e
           ∙ ap (λ (o : Option ℕ). following (take k numbers) (ahead o (numbers_in rest))) f
           ∙ ahead_more (take k numbers) n (numbers_in rest)
-          ∙ ap (λ (xs : List ℕ). following xs (numbers_in rest)) (sym front ∙ ap (λ (i : ℕ). take i (set numbers k n)) (sym (add-one k)));
+          ∙ ap (λ (xs : List ℕ). following xs (numbers_in rest)) (sym (take_more_set numbers k n h));
       count = omega (arith, r.count, ap length e);
     }
 

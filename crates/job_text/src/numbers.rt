@@ -13,9 +13,9 @@ pub(crate) fn numbers_in<const N: usize>(words: Option<&[u8]>) -> Option<[u32; N
 {
     let mut rest = words;
     let mut numbers = [0; N];
-    for k in 0..N {
+    for number in &mut numbers {
         let cut = cut_word(rest?);
-        numbers[k] = number_in(cut.word)?;
+        *number = number_in(cut.word)?;
         rest = cut.rest;
     }
     match rest {

@@ -5,7 +5,7 @@ ghost use Rattle.site.specs.Ranges.{between, flag, strength_known, edge_factor_k
 use crate::numbers::SiteNumbers;
 use certificate::fields::Edition;
 
-// The least and the greatest number of a range.
+// The least and the greatest number of a range; the value of a constant may not be one of std's inclusive ranges.
 #[derive(Clone, Copy)]
 struct Range {
     least: u32,
@@ -53,7 +53,7 @@ impl Range {
     fn has(self, number: u32) -> bool
         ensures { result ≡ between self.least self.most number }
     {
-        self.least <= number && number <= self.most
+        (self.least..=self.most).contains(&number)
     }
 }
 
@@ -76,7 +76,7 @@ fn is_known_strength(edition: Edition, strength: u32) -> bool
 fn is_known_factor(factor: u32) -> bool
     ensures { result ≡ edge_factor_known factor }
 {
-    factor == 100 || factor == 120 || factor == 140
+    matches!(factor, 100 | 120 | 140)
 }
 
 impl SiteNumbers {

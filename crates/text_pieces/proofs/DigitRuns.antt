@@ -1,8 +1,10 @@
 -- A numeral read digit by digit.
 use Rattle.std.proofs.Common.{◌≡◌, ℕ, ◌+◌, ◌-◌, ◌*◌, ◌^◌, ◌<◌, ◌≤◌, Bool, true, false, ◌&&◌, leb, ◌⊎◌, List, length, get_or, drop, Some, None, sym, ap, ◌∙◌, ⊎_elim, pow-suc, add-one, arith}
 use native.Mathlib.Nat.{pow-le-pow_right}
+use Rattle.std.specs.Char.{NotDecimalDigitIn}
+use Rattle.std.specs.Int.{IsInRange}
 use Rattle.std.proofs.lemmas.List.{at_drop_more, at_drop_all}
-use Rattle.std.proofs.lemmas.Bool.{le-leb, lt-leb, and_from, and_left, and_right, cond-true, cond-false}
+use Rattle.std.proofs.lemmas.Bool.{cases_lt, le-leb, lt-leb, and_from, and_left, and_right, cond-true, cond-false}
 use Rattle.text_pieces.specs.Numerals.{digits, read_on, numeral, number_in}
 
 pub wrong_length : (bs : List ℕ) → (length bs ≡ 0) ⊎ (9 < length bs) → None ≡ number_in bs
@@ -13,23 +15,26 @@ wrong_length bs h =
 
 -- `left` is what is still to read after n
 module _ (bs : List ℕ) (i n : ℕ) (same : digits (drop i bs) ≡ digits bs) (left : read_on n (drop i bs) ≡ read_on 0 bs) where
-  pub no_digit : i < length bs → (get_or bs i 0 < 48) ⊎ (57 < get_or bs i 0) → None ≡ number_in bs
+  pub no_digit : i < length bs → NotDecimalDigitIn 10 (get_or bs i 0) → None ≡ number_in bs
   unfolding number_in
   no_digit h g =
       let e : digits (drop i bs) ≡ ((leb 48 (get_or bs i 0) && leb (get_or bs i 0) 57) && digits (drop (i + 1) bs)) = at_drop_more digits bs i 0 h in
-      let f : (leb 48 (get_or bs i 0) && leb (get_or bs i 0) 57) ≡ false = ⊎_elim (λ (l : get_or bs i 0 < 48). and_left _ _ (lt-leb 48 (get_or bs i 0) l)) (λ (m : 57 < get_or bs i 0). and_right _ _ (lt-leb (get_or bs i 0) 57 m)) g in
+      let f : (leb 48 (get_or bs i 0) && leb (get_or bs i 0) 57) ≡ false =
+      ⊎_elim (λ (l : get_or bs i 0 < 48). and_left _ _ (lt-leb 48 (get_or bs i 0) l)) (λ (m : 48 ≤ get_or bs i 0). and_right _ _ (lt-leb (get_or bs i 0) 57 (grind arith))) (cases_lt (get_or bs i 0) 48) in
       sym (cond-false _ _ _ (and_right _ _ (sym same ∙ e ∙ and_left _ _ f)))
 
-  pub digits_more : i < length bs → 48 ≤ get_or bs i 0 → get_or bs i 0 ≤ 57 → digits (drop (i + 1) bs) ≡ digits bs
-  digits_more h a b =
+  -- one more digit
+  pub digits_more : i < length bs → IsInRange 48 57 (get_or bs i 0) → digits (drop (i + 1) bs) ≡ digits bs
+  digits_more h r =
       let e : digits (drop i bs) ≡ ((leb 48 (get_or bs i 0) && leb (get_or bs i 0) 57) && digits (drop (i + 1) bs)) = at_drop_more digits bs i 0 h in
-      let f : (leb 48 (get_or bs i 0) && leb (get_or bs i 0) 57) ≡ true = and_from _ _ (le-leb 48 _ a) (le-leb _ 57 b) in
+      let f : (leb 48 (get_or bs i 0) && leb (get_or bs i 0) 57) ≡ true = and_from _ _ (le-leb 48 _ r.0) (le-leb _ 57 r.1) in
       sym (ap (λ (t : Bool). t && digits (drop (i + 1) bs)) f) ∙ sym e ∙ same
 
-  pub read_more : i < length bs → read_on (10 * n + (get_or bs i 0 - 48)) (drop (i + 1) bs) ≡ read_on 0 bs
-  read_more h =
+  pub read_more : (d : ℕ) → i < length bs → d + 48 ≡ get_or bs i 0 → read_on (10 * n + d) (drop (i + 1) bs) ≡ read_on 0 bs
+  read_more d h v =
       let e : read_on n (drop i bs) ≡ read_on (10 * n + (get_or bs i 0 - 48)) (drop (i + 1) bs) = at_drop_more (read_on n) bs i 0 h in
-      sym e ∙ left
+      let f : d ≡ get_or bs i 0 - 48 = omega arith in
+      ap (λ (x : ℕ). read_on (10 * n + x) (drop (i + 1) bs)) f ∙ sym e ∙ left
 
   pub read_all : length bs ≤ i → 1 ≤ length bs → length bs ≤ 9 → Some n ≡ number_in bs
   unfolding number_in

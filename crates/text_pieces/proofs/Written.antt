@@ -1,9 +1,10 @@
 -- What is written reads back: decimal numbers, and pieces each with its mark.
-use Rattle.std.proofs.Common.{◌≡◌, ℕ, ◌^◌, ◌<◌, ◌≤◌, Bool, true, false, cond, ◌&&◌, eqb, ltb, leb, List, [], ◌∷◌, ◌++◌, length, Some, None, decimal, refl, ap, ◌∙◌, arith, rules}
+use Rattle.std.proofs.Common.{◌≡◌, ℕ, ◌^◌, ◌<◌, ◌≤◌, Bool, true, ◌&&◌, eqb, ltb, leb, List, [], ◌∷◌, ◌++◌, length, Some, None, decimal, refl, ap, ◌∙◌, arith, rules}
 use Rattle.std.specs.List.{AllByRecursion}
 use Rattle.std.proofs.lemmas.List.{append-nil}
 use Rattle.std.proofs.lemmas.Str.Parse.{IsNumeralModel, numerals_by_fold}
 use Rattle.std.proofs.lemmas.Fmt.{digits_decimal, digits_value-decimal, length-decimal-le, decimal_nonempty}
+use Rattle.std.proofs.lemmas.Option.{cond_some}
 use Rattle.std.proofs.lemmas.Bool.{eq-eqb, ne_eqb, le-leb, leb-true, ltb-true, and_from, and_parts, cond-true, cond-false}
 use Rattle.text_pieces.specs.Numerals.{digits, read_on, numeral, number_in}
 use Rattle.text_pieces.specs.Pieces.{onto, pieces, lines, words, after_spaces}
@@ -70,13 +71,9 @@ pub words_spaced : (w : List ℕ) (ws : List (List ℕ)) → Free 32 w → AllBy
 words_spaced w [] h g = ap words (append-nil w) ∙ only_word w h
 words_spaced w (v ∷ ws) h (g, t) = word_ended w (v ++ after_spaces ws) h ∙ ap (λ (vs : List (List ℕ)). w ∷ vs) (words_spaced v ws g t)
 
-some_at : (b : Bool) (x n : ℕ) → cond b (Some x) None ≡ Some n → b ≡ true
-some_at true x n e = refl
-some_at false x n e = let z : ◌≡◌ {A = ℕ} 0 1 = cc in absurd (omega arith)
-
 -- a number has no space
 pub free_number : (w : List ℕ) (n : ℕ) → number_in w ≡ Some n → Free 32 w
 unfolding number_in
 free_number w n e =
-    let t = some_at (numeral w) (read_on 0 w) n e in
-    free_digits 32 w (omega arith) (and_parts (leb 1 (length w) && leb (length w) 9) (digits w) t).1
+    let t = cond_some (numeral w) (read_on 0 w) n e in
+    free_digits 32 w (omega arith) (and_parts (leb 1 (length w) && leb (length w) 9) (digits w) t.0).1

@@ -12,12 +12,10 @@ pub fn number_in(bytes: &[u8]) -> Option<u32>
     if bytes.is_empty() || bytes.len() > MOST_DIGITS {
         return None;
     }
+    // a loop: in a fold each sum would need a check of its own
     let mut number: u32 = 0;
     for byte in bytes {
-        if *byte < b'0' || *byte > b'9' {
-            return None;
-        }
-        number = 10 * number + (*byte - b'0') as u32;
+        number = 10 * number + char::from(*byte).to_digit(10)?;
     }
     Some(number)
 }

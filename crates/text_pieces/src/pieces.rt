@@ -1,5 +1,6 @@
 // The lines of a text, and the words of a line.
 ghost use Rattle.std.specs.Prelude.{◌≡◌, ◌<◌, [], ◌∷◌, length, MatchOption};
+ghost use Rattle.std.specs.Iterator.{YieldsFirstRef, item_count};
 ghost use Rattle.std.specs.Option.{option_map};
 ghost use Rattle.text_pieces.specs.Pieces.{FirstOf, CutAt, lines, words, words_after, WordsOf};
 
@@ -7,26 +8,10 @@ ghost use Rattle.text_pieces.specs.Pieces.{FirstOf, CutAt, lines, words, words_a
 pub fn place_of(bytes: &[u8], wanted: u8) -> usize
     ensures { FirstOf wanted bytes.now result }
 {
-    for (i, byte) in bytes.iter().enumerate() {
-        if *byte == wanted {
-            return i;
-        }
-    }
-    bytes.len()
-}
-
-// Where the first line of a text ends.
-fn line_end(text: &[u8]) -> usize
-    ensures { FirstOf 10 text.now result }
-{
-    place_of(text, b'\n')
-}
-
-// Where the first word of a line ends.
-fn word_end(line: &[u8]) -> usize
-    ensures { FirstOf 32 line.now result }
-{
-    place_of(line, b' ')
+    bytes
+        .iter()
+        .position(|byte| *byte == wanted)
+        .unwrap_or(bytes.len())
 }
 
 // The first line of a text, without its line feed, and what follows it.
@@ -45,19 +30,38 @@ pub fn cut_line<'a>(text: &'a [u8]) -> Option<LineCut<'a>>
     if text.is_empty() {
         return None;
     }
-    let end = line_end(text);
-    let line = &text[0..end];
-    if end == text.len() {
-        Some(LineCut {
-            line,
-            rest: &text[end..],
-        })
-    } else {
-        let next = end + 1;
-        Some(LineCut {
-            line,
-            rest: &text[next..],
-        })
+    let end = place_of(text, b'\n');
+    Some(LineCut {
+        line: &text[..end],
+        rest: text.get(end + 1..).unwrap_or(&[]),
+    })
+}
+
+// The lines of a text, one after the other.
+#[derive(Clone, Copy)]
+pub struct Lines<'a> {
+    rest: &'a [u8],
+}
+
+impl<'a> Lines<'a> {
+    pub fn new(text: &'a [u8]) -> Lines<'a>
+        ensures { result.rest.now ≡ text.now }
+    {
+        Lines { rest: text }
+    }
+}
+
+impl<'a> Iterator for Lines<'a> {
+    type Item = &'a [u8];
+
+    ghost next_gives = { YieldsFirstRef (λ s. lines s.rest.now) };
+
+    ghost remaining = { item_count (λ s. lines s.rest.now) };
+
+    fn next(&mut self) -> Option<&'a [u8]> {
+        let cut = cut_line(self.rest)?;
+        self.rest = cut.rest;
+        Some(cut.line)
     }
 }
 
@@ -73,15 +77,9 @@ pub fn cut_word<'a>(line: &'a [u8]) -> WordCut<'a>
     ensures words { words line.now ≡ result.word.now ∷ words_after (option_map (λ x. x.now) result.rest) }
     ensures joined { WordsOf line.now (words line.now) }
 {
-    let end = word_end(line);
-    let word = &line[0..end];
-    if end == line.len() {
-        WordCut { word, rest: None }
-    } else {
-        let next = end + 1;
-        WordCut {
-            word,
-            rest: Some(&line[next..]),
-        }
+    let end = place_of(line, b' ');
+    WordCut {
+        word: &line[..end],
+        rest: line.get(end + 1..),
     }
 }

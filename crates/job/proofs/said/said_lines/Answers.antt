@@ -1,10 +1,11 @@
+use Rattle.std.proofs.Common.{rules}
+use Rattle.std.proofs.lemmas.Iterator.{YieldsList-from_map, items_from_collect}
+use Rattle.std.proofs.lemmas.Iterator.Consumers.{YieldsList-from_first}
+use Rattle.text_pieces.specs.Pieces.{lines}
 use Rattle.job_text.specs.Lines.{job_line}
-use Rattle.std.proofs.Common.{[], ◌∷◌, ◌++◌, vec_items, ap, ◌∙◌}
-use Rattle.job.proofs.Scripting.{said_more}
 use Rattle.job.proofs.said.said_lines.Goals as goal
 
-pub loop-cut-preserved : goal.loop-cut-preserved
-loop-cut-preserved c =
-    said_more job_line (vec_items c.loop-cut.said) _ c.in-Some.cut.line.now _ _ _
-    (c.in_ok-push.ensures.items ∙ ap (λ x. vec_items c.loop-cut.said ++ (x ∷ [])) c.parse.ensures.value)
-    c.in-Some.ensures.lines c.loop-cut.invariant
+pub returns : goal.returns
+returns c =
+    items_from_collect _ c.collect.ensures.ran
+    (YieldsList-from_map _ job_line (YieldsList-from_first (λ x. x.now) (λ s. lines s.rest.now) (lines c.args.text.now) (cc)) (cc) (λ x r q k. search rules))

@@ -1,41 +1,37 @@
 use Rattle.std.proofs.Common.{◌≡◌, ℕ, ◌<◌, ◌≤◌, List, length, Option, sym, ap, ◌∙◌, arith, length-set, Bor}
-use lib.ListN.{length-replicate}
 use Rattle.std.specs.Option.{option_map}
 use Rattle.text_pieces.specs.Pieces.{words_after}
-use Rattle.job_text.proofs.NumberRuns.{read_none, read_more, read_short, read_long, read_wrong, read_all}
+use Rattle.job_text.proofs.NumberRuns.{read_more, read_short, read_long, read_wrong, read_all}
 use Rattle.job_text.proofs.numbers.numbers_in.Goals as goal
 
 -- the words in an optional byte string
 abbrev left : Option (Bor (List ℕ)) → List (List ℕ)
 left o = words_after (option_map (λ x. x.now) o)
 
-pub loop-k-init : goal.loop-k-init
-loop-k-init g c = (read_none _ _, length-replicate g.row.N 0)
-
 pub returns-in_err-rest : goal.returns-in_err-rest
 returns-in_err-rest g c =
-    c.from_residual.ensures ∙ read_short g.row.N _ _ _ _ c.loop-k.invariant.0 (ap left c.in_err-rest.was) c.loop-k-test.true
+    c.from_residual.ensures ∙ read_short g.row.N _ _ _ _ c.loop-number.invariant.0 (ap left c.in_err-rest.was) c.loop-number-test.true
 
-pub returns-in_err-numbers : goal.returns-in_err-numbers
-returns-in_err-numbers g c =
+pub returns-in_err-number : goal.returns-in_err-number
+returns-in_err-number g c =
     let e = ap left c.in_ok-rest.was ∙ c.cut_word-cut.ensures.words in
-    let f = sym c.number_in.ensures.value ∙ c.in_err-numbers.was in
-    c.from_residual-in_err-numbers.ensures ∙ read_wrong g.row.N _ _ _ _ _ _ c.loop-k.invariant.0 e f
+    let f = sym c.number_in.ensures.value ∙ c.in_err-number.was in
+    c.from_residual-in_err-number.ensures ∙ read_wrong g.row.N _ _ _ _ _ _ c.loop-number.invariant.0 e f
 
-pub loop-k-preserved : goal.loop-k-preserved
-loop-k-preserved g c =
+pub loop-number-preserved : goal.loop-number-preserved
+loop-number-preserved g c =
     let e = ap left c.in_ok-rest.was ∙ c.cut_word-cut.ensures.words in
-    let f = sym c.number_in.ensures.value ∙ c.in_ok-numbers.was in
-    let n : length c.loop-k.numbers ≡ g.row.N = c.loop-k.invariant.1 in
-    let t : c.loop-k.k < g.row.N = c.loop-k-test.true in
-    (read_more _ _ _ _ _ _ _ c.loop-k.invariant.0 e f (omega arith), simp length-set n)
+    let f = sym c.number_in.ensures.value ∙ c.in_ok-number.was in
+    let n : length c.loop-number.number-items ≡ g.row.N = c.loop-number.invariant.1 in
+    let t : c.loop-number.number-index < g.row.N = c.loop-number-test.true in
+    (read_more _ _ _ _ _ _ _ c.loop-number.invariant.0 e f (omega arith), simp length-set n)
 
 pub returns-in-Some : goal.returns-in-Some
 returns-in-Some g c =
-    read_long g.row.N _ _ _ _ c.in-Some.field-0.now c.loop-k.invariant.0 (ap left c.in-Some.is) c.loop-k-test.false
+    read_long g.row.N _ _ _ _ c.in-Some.field-0.now c.loop-number.invariant.0 (ap left c.in-Some.is) c.loop-number-test.false
 
 pub returns-in-None : goal.returns-in-None
 returns-in-None g c =
-    let t : g.row.N ≤ c.loop-k.k = c.loop-k-test.false in
-    let m : c.loop-k.k ≤ g.row.N = c.loop-k.auto.k-end in
-    read_all g.row.N _ _ _ _ c.loop-k.invariant.0 (ap left c.in-None.is) (omega arith) c.loop-k.invariant.1
+    let t : g.row.N ≤ c.loop-number.number-index = c.loop-number-test.false in
+    let m : c.loop-number.number-index ≤ g.row.N = c.loop-number.auto.number-index-end in
+    read_all g.row.N _ _ _ _ c.loop-number.invariant.0 (ap left c.in-None.is) (omega arith) c.loop-number.invariant.1

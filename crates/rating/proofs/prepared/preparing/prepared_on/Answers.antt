@@ -19,7 +19,7 @@ pub invariant_of-result : goal.invariant_of-result
 invariant_of-result c =
     let t = c.args.site.now in
     let i = (c.geometry-geometry.ensures.lawful c.requires).inertia in
-    record { fits = opening_fits (record { anchors = t.anchors; spacing = t.spacing; inertia = c.geometry-geometry.result.moment_of_inertia }) t.least_anchors t.most_anchors t.least_spacing t.most_spacing i.from i.to }
+    record { fits = opening_fits (record { anchors = t.anchors; spacing = t.spacing; inertia = c.geometry-geometry.result.moment_of_inertia }) t.anchors_range.0 t.anchors_range.1 t.spacing_range.0 t.spacing_range.1 i.from i.to }
 
 pub lines_of-sheet-requires : goal.lines_of-sheet-requires
 lines_of-sheet-requires c = record {
