@@ -1,5 +1,5 @@
 -- A mode under a rule keeps the laws of the mode below it.
-use Rattle.std.specs.Prelude.{◌≡◌, ℕ, ◌≤◌}
+use Rattle.std.specs.Prelude.{ℕ, ◌≤◌}
 use Rattle.std.proofs.Common.{ap, arith}
 use Rattle.forces.specs.Cases.{Case}
 use Rattle.failure.specs.Meanings.{Meaning, LawfulAt, Alike}

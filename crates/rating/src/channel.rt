@@ -5,7 +5,7 @@ ghost use Rattle.rating.specs.Lines.{IsSheet};
 use crate::concrete_lines::ConcreteBasis;
 use crate::edition::ByEdition;
 use crate::steel::{anchor_steel, bolt_steel, factor_of, flexure, lip, pull_out};
-use bolts::bolt::Direction;
+use bolts::bolt::Direction::{Shear, Tension};
 use certificate::fields::{CharacteristicValues, Edition, Geometry, PartialFactors};
 use concrete_modes::cone::Cone;
 use concrete_modes::edge::first::FirstEdge;
@@ -69,32 +69,32 @@ pub(crate) fn lines_of(
         site,
     };
     Sheet {
-        line1: anchor_steel(Direction::Tension, values.anchor, factor_of(factors.anchor)),
-        line2: anchor_steel(Direction::Tension, values.connection, factor_of(factors.connection)),
+        line1: anchor_steel(Tension, values.anchor, factor_of(factors.anchor)),
+        line2: anchor_steel(Tension, values.connection, factor_of(factors.connection)),
         line3: lip(
-            Direction::Tension,
+            Tension,
             values.lip,
             factor_of(factors.lip),
             geometry.lip_spacing_tension,
         ),
-        line4: bolt_steel(Direction::Tension, values.bolt, factor_of(factors.bolt)),
+        line4: bolt_steel(Tension, values.bolt, factor_of(factors.bolt)),
         line5: flexure(values.flexure, factor_of(factors.flexure)),
         line6: pull_out(values.pullout, strength_factor, concrete.factor),
-        line7: concrete.cone_line(Direction::Tension, WHOLE),
-        line8: bolt_steel(Direction::Shear, values.bolt_shear, factor_of(factors.bolt_shear)),
+        line7: concrete.cone_line(Tension, WHOLE),
+        line8: bolt_steel(Shear, values.bolt_shear, factor_of(factors.bolt_shear)),
         line9: lip(
-            Direction::Shear,
+            Shear,
             values.lip_shear,
             factor_of(factors.lip_shear),
             geometry.lip_spacing_shear,
         ),
-        line10: anchor_steel(Direction::Shear, values.anchor_shear, factor_of(factors.anchor_shear)),
+        line10: anchor_steel(Shear, values.anchor_shear, factor_of(factors.anchor_shear)),
         line11: anchor_steel(
-            Direction::Shear,
+            Shear,
             values.connection_shear,
             factor_of(factors.connection_shear),
         ),
-        line12: concrete.cone_line(Direction::Shear, geometry.pryout_factor),
+        line12: concrete.cone_line(Shear, geometry.pryout_factor),
         line13: concrete.edge_line(edition),
     }
 }

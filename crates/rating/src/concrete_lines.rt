@@ -80,7 +80,11 @@ impl ConcreteBasis<'_> {
         let left = um_of(site.left_corner);
         let right = um_of(site.right_corner);
         let by_corners = CornerReduction::new(by_edge, left, right, edge).unwrap();
-        by_density(by_corners, site.dense, u32::from(self.geometry.embedment_depth))
+        by_density(
+            by_corners,
+            site.dense,
+            u32::from(self.geometry.embedment_depth),
+        )
     }
 
     // The edge by an edition under its reductions: by the corners, and by the member's thickness.
