@@ -4,7 +4,8 @@
 --   allowed s a               the allowance under the rule, where that of the mode below is a
 --   scaled s c kind i r       the resistance at the place i, where that of the mode below is r
 --   low_scaled, high_scaled   the readings of it, where those of the mode below are R
---   under s c m               the mode m under the rule, in the case c
+--   under s c m               the mode m under the rule, in the case c: with a ratio `straight_meaning` of the ratios at its
+--                             places, with a root `root_meaning`, else m
 --   RootsInRange s            a square root is taken only of ratios of 25,000 µm or more to 2,500,000 µm or less
 --   maybe_scaling scaling r   the scaling of a rule that may be there
 use Rattle.std.specs.Prelude.{ℕ, ◌≤◌, Some, None, Option}

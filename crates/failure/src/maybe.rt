@@ -8,10 +8,11 @@ use crate::resistance::Resistance;
 use crate::rule::Rule;
 use crate::straight::Straight;
 
-// Without the rule the mode stays as it is.
+// A mode under a rule that may be there; where it is not, the mode stays as it is.
 pub type MaybeReduced<M> = Reduced<M, Option<Straight>>;
 
 impl<M> MaybeReduced<M> {
+    // The mode with this rule or none.
     pub fn new(below: M, rule: Option<Straight>) -> Self
         ensures { (result.below ≡ below) × (result.rule ≡ rule) }
     {

@@ -11,7 +11,8 @@ use loadcase::closed::ClosedCase;
 pub enum PlaceKind {
     Bolts,
     Anchors,
-    // The mode does not apply.
+    // The mode does not apply. A kind and no Option of one: rows and checks compare kinds, and this one equals none that
+    // a check asks for.
     Nothing,
 }
 

@@ -12,7 +12,7 @@ use crate::rule::Rule;
 use crate::scaling::{Distances, raise};
 use bolts::refusal::Refusal;
 
-// The rule, with the distances A and B.
+// The rule, with the actual distance A and the characteristic distance B in µm.
 #[derive(Clone, Copy)]
 pub struct Root {
     distances: Distances,
@@ -22,8 +22,7 @@ pub struct Root {
 pub type RootReduction<M> = Reduced<M, Root>;
 
 impl<M: Drop> RootReduction<M> {
-    // The reduction of a mode, with the actual distance A and the characteristic distance B in µm; refused where one is
-    // out of range.
+    // The reduction of a mode; refused where a distance is out of range.
     pub fn new(below: M, a: u64, b: u64) -> Result<Self, Refusal>
         ensures { MatchResult result (λ s. (in_range a b ≡ true) × (s.below ≡ below) × (s.rule.distances.a ≡ a) × (s.rule.distances.b ≡ b)) (λ e. (in_range a b ≡ false) × (e ≡ Reduction)) }
     {

@@ -12,7 +12,7 @@ use crate::rule::Rule;
 use crate::scaling::{Distances, raise};
 use bolts::refusal::Refusal;
 
-// The rule, with the distances A and B.
+// The rule, with the actual distance A and the characteristic distance B in µm.
 #[derive(Clone, Copy)]
 pub struct Straight {
     distances: Distances,
@@ -32,8 +32,7 @@ impl Straight {
 pub type StraightReduction<M> = Reduced<M, Straight>;
 
 impl<M: Drop> StraightReduction<M> {
-    // The reduction of a mode, with the actual distance A and the characteristic distance B in µm; refused where one is
-    // out of range.
+    // The reduction of a mode; refused where a distance is out of range.
     pub fn new(below: M, a: u64, b: u64) -> Result<Self, Refusal>
         ensures { MatchResult result (λ s. (in_range a b ≡ true) × (s.below ≡ below) × (s.rule.distances.a ≡ a) × (s.rule.distances.b ≡ b)) (λ e. (in_range a b ≡ false) × (e ≡ Reduction)) }
     {

@@ -41,8 +41,9 @@ impl Place<'_> {
         ensures within { result ≤ 10000000000000 }
     {
         match self.kind {
-            PlaceKind::Bolts => UM_IN_TENTH
-                * u64::from(bolt_position(self.case.bolts(), self.index)),
+            PlaceKind::Bolts => {
+                UM_IN_TENTH * u64::from(bolt_position(self.case.bolts(), self.index))
+            }
             PlaceKind::Anchors => {
                 UM_IN_TENTH * (self.index as u64 * u64::from(self.case.opening().spacing))
             }
