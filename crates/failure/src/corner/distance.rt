@@ -40,15 +40,12 @@ impl Place<'_> {
         ensures value { result ≡ position_of (closed_case self.entry.case.now) self.entry.kind self.entry.index }
         ensures within { result ≤ 10000000000000 }
     {
-        match self.kind {
-            PlaceKind::Bolts => {
-                UM_IN_TENTH * u64::from(bolt_position(self.case.bolts(), self.index))
-            }
-            PlaceKind::Anchors => {
-                UM_IN_TENTH * (self.index as u64 * u64::from(self.case.opening().spacing))
-            }
+        let tenths = match self.kind {
+            PlaceKind::Bolts => u64::from(bolt_position(self.case.bolts(), self.index)),
+            PlaceKind::Anchors => self.index as u64 * u64::from(self.case.opening().spacing),
             PlaceKind::Nothing => 0,
-        }
+        };
+        UM_IN_TENTH * tenths
     }
 }
 
