@@ -1,11 +1,11 @@
--- What a mode's laws say of the number at a place.
-use Rattle.std.proofs.Common.{◌≡◌, ℕ, ◌<◌, Bool, true, false, cond, ltb, IfSome, Some, None, Option, sym, refl, subst, ltb-true}
+-- What a number that is found at a place tells.
+use Rattle.std.proofs.Common.{◌≡◌, ℕ, ◌<◌, Bool, true, false, cond, ltb, Some, None, refl, ltb-true}
 use Rattle.failure.specs.Meanings.{at_place}
 
--- what holds of the number at every place of n holds of the number that is found
-pub found_at : (n i : ℕ) (f : ℕ → ℕ) (P : ℕ → Type 0) (o : Option ℕ) → o ≡ at_place n f i → (i < n → P (f i)) → IfSome o P
-found_at n i f P o e h = subst (λ (v : Option ℕ). IfSome v P) (sym e) (step (ltb i n) refl)
+-- the place is one of n, and the number is that of the place
+pub found_at : (n i : ℕ) (f : ℕ → ℕ) (v : ℕ) → at_place n f i ≡ Some v → (i < n) × (f i ≡ v)
+found_at n i f v = step (ltb i n) refl
   where
-    step : (t : Bool) → ltb i n ≡ t → IfSome (cond t (Some (f i)) None) P
-    step true k = h (ltb-true i n k)
-    step false k = tt
+    step : (t : Bool) → ltb i n ≡ t → cond t (Some (f i)) None ≡ Some v → (i < n) × (f i ≡ v)
+    step true k e = (ltb-true i n k, cc)
+    step false k e = cc

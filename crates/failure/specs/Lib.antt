@@ -6,3 +6,6 @@ pub mod Combined
 pub mod Rooting
 pub mod Shortfalls
 pub mod Products
+pub mod Distances
+pub mod Scalings
+pub mod Scaled

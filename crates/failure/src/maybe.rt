@@ -1,68 +1,41 @@
 // A failure mode with or without a straight reduction, as one type.
-ghost use Rattle.failure.specs.Combined.{maybe_of};
-ghost use Rattle.fractions.specs.Fractions.{over};
-ghost use Rattle.failure.specs.declared.maybe.MaybeReduced.TheVariants.{Plain, Reduced};
-ghost use Rattle.failure.specs.Products.{straight_lawful};
-ghost use Rattle.std.proofs.Common.{rules};
+ghost use Rattle.std.specs.Prelude.{◌≡◌, Some, None};
+ghost use Rattle.failure.specs.Scalings.{maybe_scaling};
 
-use crate::mode::FailureMode;
-use crate::places::Places;
-use crate::straight::StraightReduction;
-use bolts::bolt::Direction;
-use loadcase::closed::ClosedCase;
+use crate::places::Place;
+use crate::reduced::Reduced;
+use crate::resistance::Resistance;
+use crate::rule::Rule;
+use crate::straight::Straight;
 
-#[derive(Drop)]
-pub enum MaybeReduced<M> {
-    Plain(M),
-    Reduced(StraightReduction<M>),
+// A mode under a rule that may be there; where it is not, the mode stays as it is.
+pub type MaybeReduced<M> = Reduced<M, Option<Straight>>;
+
+impl<M> MaybeReduced<M> {
+    // The mode with this rule or none.
+    pub fn new(below: M, rule: Option<Straight>) -> Self
+        ensures { (result.below ≡ below) × (result.rule ≡ rule) }
+    {
+        Reduced { below, rule }
+    }
 }
 
-impl<M: FailureMode> FailureMode for MaybeReduced<M> {
-    ghost meaning = { maybe_of M.FailureMode.meaning };
+impl<R: Rule> Rule for Option<R> {
+    ghost scaling = { maybe_scaling R.scaling };
 
-    ghost lawful = { elim [
-      | Plain m ↦ λ c valid i here. M.FailureMode.lawful m c valid i here
-      | Reduced s ↦ λ c valid i here. straight_lawful _ (λ _. over s.a s.b s.proper) (M.FailureMode.meaning s.below c) i (M.FailureMode.lawful s.below c valid i here)
-    ] };
+    ghost in_range = { elim [ Some r ↦ R.in_range r | None ↦ tt ] };
 
-    ghost few = { Prim.search rules };
-
-    ghost allows = { Prim.search rules };
-
-    ghost fixed = { Prim.search rules };
-
-    fn allowance(&self) -> u32 {
+    fn raise(&self, allowance: u32) -> u32 {
         match self {
-            MaybeReduced::Plain(mode) => mode.allowance(),
-            MaybeReduced::Reduced(mode) => mode.allowance(),
+            Some(rule) => rule.raise(allowance),
+            None => allowance,
         }
     }
 
-    fn direction(&self) -> Direction {
+    fn scale(&self, below: Resistance, place: Place<'_>) -> u64 {
         match self {
-            MaybeReduced::Plain(mode) => mode.direction(),
-            MaybeReduced::Reduced(mode) => mode.direction(),
-        }
-    }
-
-    fn places(&self, case: &ClosedCase) -> Places {
-        match self {
-            MaybeReduced::Plain(mode) => mode.places(case),
-            MaybeReduced::Reduced(mode) => mode.places(case),
-        }
-    }
-
-    fn effect(&self, case: &ClosedCase, place: usize) -> Option<u64> {
-        match self {
-            MaybeReduced::Plain(mode) => mode.effect(case, place),
-            MaybeReduced::Reduced(mode) => mode.effect(case, place),
-        }
-    }
-
-    fn resistance(&self, case: &ClosedCase, place: usize) -> Option<u64> {
-        match self {
-            MaybeReduced::Plain(mode) => mode.resistance(case, place),
-            MaybeReduced::Reduced(mode) => mode.resistance(case, place),
+            Some(rule) => rule.scale(below, place),
+            None => below.mn,
         }
     }
 }

@@ -1,10 +1,11 @@
 // What a failure mode is.
-ghost use Rattle.std.specs.Prelude.{◌≡◌, ℕ, ◌<◌, ◌≤◌, IfSome, OnSome};
+ghost use Rattle.std.specs.Prelude.{◌≡◌, ℕ, ◌<◌, ◌≤◌, OnSome, option_map};
 ghost use Rattle.forces.specs.Cases.{Case, Valid};
 ghost use Rattle.loadcase.specs.Closed.{closed_case};
 ghost use Rattle.failure.specs.Meanings.{Meaning, Lawful, Alike, effect_at, resistance_at};
 
 use crate::places::Places;
+use crate::resistance::Resistance;
 use bolts::bolt::Direction;
 use loadcase::closed::ClosedCase;
 
@@ -41,15 +42,15 @@ pub trait FailureMode {
     ghost fixed: { (m : Self) (c d : Case) → Alike (meaning m c) (meaning m d) };
 }
 
-// The resistance of a mode at a place, with what its laws say: it is at most 2,000,000 N, and there are few places.
+// The resistance of a mode at a place, with what its laws say: it is in range, and there are few places.
 pub(crate) fn bounded_resistance<M: FailureMode>(
     mode: &M,
     case: &ClosedCase,
     place: usize,
-) -> Option<u64>
-    ensures value { result ≡ resistance_at (M.FailureMode.meaning mode.now (closed_case case.now)) place }
-    ensures fits { IfSome result (λ v. v ≤ 2000000000) }
+) -> Option<Resistance>
+    ensures value { option_map (λ r. r.mn) result ≡ resistance_at (M.FailureMode.meaning mode.now (closed_case case.now)) place }
     ensures few { OnSome result (place < 16) }
 {
-    mode.resistance(case, place)
+    let mn = mode.resistance(case, place)?;
+    Some(Resistance { mn })
 }

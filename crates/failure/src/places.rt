@@ -1,5 +1,5 @@
 // The places of a load case at which a failure mode compares an effect with a resistance.
-ghost use Rattle.std.specs.Prelude.{◌≡◌};
+ghost use Rattle.std.specs.Prelude.{◌≡◌, ◌<◌};
 ghost use Rattle.loadcase.specs.Closed.{closed_case};
 ghost use Rattle.failure.specs.Meanings.{at_place};
 ghost use Rattle.failure.specs.Places.{on_bolts, on_anchors};
@@ -11,7 +11,8 @@ use loadcase::closed::ClosedCase;
 pub enum PlaceKind {
     Bolts,
     Anchors,
-    // The mode does not apply.
+    // The mode does not apply. A kind and no Option of one: rows and checks compare kinds, and this one equals none that
+    // a check asks for.
     Nothing,
 }
 
@@ -47,10 +48,15 @@ impl Places {
     pub fn at_each(self, value: u64, place: usize) -> Option<u64>
         ensures { result ≡ at_place self.count (λ _. value) place }
     {
-        if place < self.count {
-            Some(value)
-        } else {
-            None
-        }
+        (place < self.count).then_some(value)
     }
+}
+
+// A place of a mode in a case. There are few.
+#[derive(Clone, Copy)]
+pub struct Place<'a> {
+    pub case: &'a ClosedCase,
+    pub kind: PlaceKind,
+    pub index: usize,
+    ghost few: { index < 16 },
 }

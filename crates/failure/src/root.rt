@@ -1,71 +1,47 @@
 // The root reduction: the resistance times the square root of A over B, where A is less.
-ghost use Rattle.std.specs.Prelude.{◌≡◌, ◌<◌, ◌≤◌, true, false, MatchResult};
+ghost use Rattle.std.specs.Prelude.{◌≡◌, true, false, MatchResult};
 ghost use Rattle.bolts.specs.declared.refusal.Refusal.TheVariants.{Reduction};
-ghost use Rattle.fractions.specs.Fractions.{over};
-ghost use Rattle.failure.specs.Reductions.{in_range, root_meaning};
-ghost use Rattle.failure.specs.Rooting.{root_lawful};
-ghost use Rattle.std.proofs.Common.{rules, arith};
+ghost use Rattle.failure.specs.Distances.{ratio_of};
+ghost use Rattle.failure.specs.Reductions.{in_range};
+ghost use Rattle.failure.specs.Scalings.{ByRoot};
 
-use crate::mode::{FailureMode, bounded_resistance};
-use crate::places::Places;
-use crate::scaling::{actual_fits, characteristic_fits, raise, reduce_by_root};
-use bolts::bolt::Direction;
+use crate::places::Place;
+use crate::reduced::Reduced;
+use crate::resistance::Resistance;
+use crate::rule::Rule;
+use crate::scaling::{Distances, raise};
 use bolts::refusal::Refusal;
-use loadcase::closed::ClosedCase;
 
-// A mode under the reduction, with the actual distance A and the characteristic distance B in µm.
-#[derive(Drop)]
-pub struct RootReduction<M> {
-    below: M,
-    a: u64,
-    b: u64,
-    ghost least: { 25000 ≤ a },
-    ghost small: { b ≤ 2500000 },
-    ghost proper: { 0 < b },
+// The rule, with the actual distance A and the characteristic distance B in µm.
+#[derive(Clone, Copy)]
+pub struct Root {
+    distances: Distances,
 }
+
+// A mode under the reduction.
+pub type RootReduction<M> = Reduced<M, Root>;
 
 impl<M: Drop> RootReduction<M> {
     // The reduction of a mode; refused where a distance is out of range.
     pub fn new(below: M, a: u64, b: u64) -> Result<Self, Refusal>
-        ensures { MatchResult result (λ s. (in_range a b ≡ true) × (s.below ≡ below) × (s.a ≡ a) × (s.b ≡ b)) (λ e. (in_range a b ≡ false) × (e ≡ Reduction)) }
+        ensures { MatchResult result (λ s. (in_range a b ≡ true) × (s.below ≡ below) × (s.rule.distances.a ≡ a) × (s.rule.distances.b ≡ b)) (λ e. (in_range a b ≡ false) × (e ≡ Reduction)) }
     {
-        if actual_fits(a) && characteristic_fits(b) {
-            Ok(RootReduction { below, a, b })
-        } else {
-            Err(Refusal::Reduction)
-        }
+        let distances = Distances::new(a, b)?;
+        let rule = Root { distances };
+        Ok(Reduced { below, rule })
     }
 }
 
-impl<M: FailureMode> FailureMode for RootReduction<M> {
-    ghost meaning = { λ s c. root_meaning (λ _. over s.a s.b s.proper) (M.FailureMode.meaning s.below c) };
+impl Rule for Root {
+    ghost scaling = { λ r. ByRoot (λ _ _ _. ratio_of r.distances) };
 
-    ghost lawful = { λ s c valid i here. root_lawful _ (λ _. over s.a s.b s.proper) (M.FailureMode.meaning s.below c) i s.least s.small (M.FailureMode.lawful s.below c valid i here) };
+    ghost in_range = { λ r _ _ _. (r.distances.least, r.distances.small) };
 
-    ghost few = { first_of (Prim.search rules, Prim.grind (arith, Self.row.coded.inj)) };
-
-    ghost allows = { first_of (Prim.search rules, Prim.grind (arith, Self.row.coded.inj)) };
-
-    ghost fixed = { first_of (Prim.search rules, Prim.grind (arith, Self.row.coded.inj)) };
-
-    fn allowance(&self) -> u32 {
-        raise(self.below.allowance())
+    fn raise(&self, allowance: u32) -> u32 {
+        raise(allowance)
     }
 
-    fn direction(&self) -> Direction {
-        self.below.direction()
-    }
-
-    fn places(&self, case: &ClosedCase) -> Places {
-        self.below.places(case)
-    }
-
-    fn effect(&self, case: &ClosedCase, place: usize) -> Option<u64> {
-        self.below.effect(case, place)
-    }
-
-    fn resistance(&self, case: &ClosedCase, place: usize) -> Option<u64> {
-        let below = bounded_resistance(&self.below, case, place)?;
-        Some(reduce_by_root(below, self.a, self.b))
+    fn scale(&self, below: Resistance, _place: Place<'_>) -> u64 {
+        self.distances.by_root(below)
     }
 }

@@ -1,7 +1,10 @@
-// The arithmetic of reductions: ranges, allowances, and a resistance multiplied and rounded down.
-ghost use Rattle.std.specs.Prelude.{◌≡◌, ◌<◌, ◌≤◌};
-ghost use Rattle.failure.specs.Reductions.{actual_fits, characteristic_fits, raised, straight_reduced, root_reduced};
+// The arithmetic of reductions: distances in range, allowances, and a resistance scaled and rounded down.
+ghost use Rattle.std.specs.Prelude.{◌≡◌, ◌<◌, ◌≤◌, true, false, MatchResult};
+ghost use Rattle.bolts.specs.declared.refusal.Refusal.TheVariants.{Reduction};
+ghost use Rattle.failure.specs.Reductions.{actual_fits, characteristic_fits, in_range, raised, straight_reduced, root_reduced};
 
+use crate::resistance::Resistance;
+use bolts::refusal::Refusal;
 use roots::ratio::Ratio;
 
 // The least distance that a reduction takes, in µm.
@@ -22,50 +25,65 @@ const MILLION: u64 = 1_000_000;
 pub(crate) fn actual_fits(a: u64) -> bool
     ensures { result ≡ actual_fits a }
 {
-    a >= LEAST_DISTANCE && a <= MOST_ACTUAL
+    (LEAST_DISTANCE..=MOST_ACTUAL).contains(&a)
 }
 
 // Whether a characteristic distance is in range.
 pub(crate) fn characteristic_fits(b: u64) -> bool
     ensures { result ≡ characteristic_fits b }
 {
-    b >= LEAST_DISTANCE && b <= MOST_CHARACTERISTIC
+    (LEAST_DISTANCE..=MOST_CHARACTERISTIC).contains(&b)
 }
 
 // The allowance with one reduction more.
 pub(crate) fn raise(allowance: u32) -> u32
     ensures { result ≡ raised allowance }
 {
-    if allowance < MOST_ALLOWANCE - ONE_REDUCTION {
-        allowance + ONE_REDUCTION
-    } else {
-        MOST_ALLOWANCE
-    }
+    allowance.saturating_add(ONE_REDUCTION).min(MOST_ALLOWANCE)
 }
 
-// The resistance times a over b, down, where a is less.
-pub(crate) fn reduce_straight(resistance: u64, a: u64, b: u64) -> u64
-    requires { (resistance ≤ 2000000000) × (b ≤ 2500000) }
-    ensures { result ≡ straight_reduced a b resistance }
-{
-    if a < b {
-        resistance * a / b
-    } else {
-        resistance
-    }
+// The actual distance `a` and the characteristic distance `b`, in µm.
+#[derive(Clone, Copy)]
+pub(crate) struct Distances {
+    pub(crate) a: u64,
+    pub(crate) b: u64,
+    ghost least: { 25000 ≤ a },
+    ghost small: { b ≤ 2500000 },
+    ghost proper: { 0 < b },
 }
 
-// The resistance times the root of a over b, down, where a is less.
-pub(crate) fn reduce_by_root(resistance: u64, a: u64, b: u64) -> u64
-    requires { (resistance ≤ 2000000000) × ((0 < a) × (b ≤ 2500000)) }
-    ensures { result ≡ root_reduced a b resistance }
-{
-    if a >= b {
-        return resistance;
+impl Distances {
+    // Refused where a distance is out of range.
+    pub(crate) fn new(a: u64, b: u64) -> Result<Self, Refusal>
+        ensures { MatchResult result (λ s. (in_range a b ≡ true) × (s.a ≡ a) × (s.b ≡ b)) (λ e. (in_range a b ≡ false) × (e ≡ Reduction)) }
+    {
+        if actual_fits(a) && characteristic_fits(b) {
+            Ok(Distances { a, b })
+        } else {
+            Err(Refusal::Reduction)
+        }
     }
-    // a is above 0 and below b, so the ratio is in range
-    match Ratio::new(a, b) {
-        Some(ratio) => resistance * ratio.root_down() / MILLION,
-        None => 0,
+
+    // The resistance times a over b, down, where a is less.
+    pub(crate) fn by_ratio(self, below: Resistance) -> u64
+        ensures { result ≡ straight_reduced self.a self.b below.mn }
+    {
+        if self.a < self.b {
+            below.mn * self.a / self.b
+        } else {
+            below.mn
+        }
+    }
+
+    // The resistance times the root of a over b, down, where a is less.
+    pub(crate) fn by_root(self, below: Resistance) -> u64
+        ensures { result ≡ root_reduced self.a self.b below.mn }
+    {
+        if self.a >= self.b {
+            return below.mn;
+        }
+        // a is above 0 and below b, so the ratio is in range
+        let ratio = Ratio::new(self.a, self.b).unwrap();
+        below.mn * ratio.root_down() / MILLION
     }
 }

@@ -8,14 +8,13 @@
 --   IsDense dense h P m                  then the straight reduction of 100·(1,000 + h) over 200,000, else none
 --   IsConeLine P h t m                   a cone with P at the depth h, under all of its reductions on the site t
 --   IsEdgeLine P w h t m                 an edge with P, under all of its reductions
-use Rattle.std.specs.Prelude.{◌≡◌, ℕ, ◌+◌, ◌*◌, Bool, true, false, ◌&&◌, nat_lt}
+use Rattle.std.specs.Prelude.{◌≡◌, ℕ, ◌+◌, ◌*◌, Bool, true, false, ◌&&◌, Some, None, Option, nat_lt}
 use Rattle.bolts.specs.declared.bolt.Direction.{Direction}
 use Rattle.forces.specs.Cases.{um}
-use Rattle.failure.specs.declared.root.RootReduction.{RootReduction}
-use Rattle.failure.specs.declared.straight.StraightReduction.{StraightReduction}
-use Rattle.failure.specs.declared.corner.CornerReduction.{CornerReduction}
-use Rattle.failure.specs.declared.maybe.MaybeReduced.{MaybeReduced}
-use Rattle.failure.specs.declared.maybe.MaybeReduced.TheVariants.{Plain, Reduced}
+use Rattle.failure.specs.declared.reduced.Reduced.{Reduced}
+use Rattle.failure.specs.declared.root.Root.{Root}
+use Rattle.failure.specs.declared.straight.Straight.{Straight}
+use Rattle.failure.specs.declared.corner.Corner.{Corner}
 use Rattle.concrete.specs.Cone.{cone_edge}
 use Rattle.concrete_modes.specs.declared.cone.Cone.{Cone}
 use Rattle.concrete_modes.specs.declared.edge.EdgeBasis.{EdgeBasis}
@@ -48,30 +47,34 @@ IsEdge edition.First k f c b p γ (Second m) = ⊥
 IsEdge edition.Second k f c b p γ (First m) = ⊥
 IsEdge edition.Second k f c b p γ (Second m) = IsBasis k f c b p m.basis × (m.factor.hundredths ≡ γ)
 
-abbrev pub IsRoot : {M : Type 0} → ℕ → ℕ → (M → Type 0) → RootReduction M → Type 0
-IsRoot a b P r = (r.a ≡ a) × (r.b ≡ b) × P r.below
+abbrev pub IsRoot : {M : Type 0} → ℕ → ℕ → (M → Type 0) → Reduced M Root → Type 0
+IsRoot a b P r = (r.rule.distances.a ≡ a) × (r.rule.distances.b ≡ b) × P r.below
 
-abbrev pub IsStraight : {M : Type 0} → ℕ → ℕ → (M → Type 0) → StraightReduction M → Type 0
-IsStraight a b P r = (r.a ≡ a) × (r.b ≡ b) × P r.below
+abbrev pub IsStraight : {M : Type 0} → ℕ → ℕ → (M → Type 0) → Reduced M Straight → Type 0
+IsStraight a b P r = (r.rule.distances.a ≡ a) × (r.rule.distances.b ≡ b) × P r.below
 
-abbrev pub IsCorner : {M : Type 0} → ℕ → ℕ → ℕ → (M → Type 0) → CornerReduction M → Type 0
-IsCorner first last b P r = (r.first ≡ first) × (r.last ≡ last) × (r.b ≡ b) × P r.below
+abbrev pub IsCorner : {M : Type 0} → ℕ → ℕ → ℕ → (M → Type 0) → Reduced M Corner → Type 0
+IsCorner first last b P r = (r.rule.first ≡ first) × (r.rule.last ≡ last) × (r.rule.b ≡ b) × P r.below
 
 abbrev pub is_dense : Bool → ℕ → Bool
 is_dense dense h = dense && nat_lt h 1000
 
-abbrev pub IsDense : {M : Type 0} → Bool → ℕ → (M → Type 0) → MaybeReduced M → Type 0
-IsDense dense h P (Plain m) = (is_dense dense h ≡ false) × P m
-IsDense dense h P (Reduced s) = (is_dense dense h ≡ true) × IsStraight (100 * (1000 + h)) 200000 P s
+-- t says whether there is a rule
+abbrev pub DenseRule : Bool → ℕ → Option Straight → Type 0
+DenseRule t h None = t ≡ false
+DenseRule t h (Some s) = (t ≡ true) × (s.distances.a ≡ 100 * (1000 + h)) × (s.distances.b ≡ 200000)
 
-abbrev pub IsConeLine : (Cone → Type 0) → ℕ → Site → MaybeReduced (CornerReduction (RootReduction Cone)) → Type 0
+abbrev pub IsDense : {M : Type 0} → Bool → ℕ → (M → Type 0) → Reduced M (Option Straight) → Type 0
+IsDense dense h P m = DenseRule (is_dense dense h) h m.rule × P m.below
+
+abbrev pub IsConeLine : (Cone → Type 0) → ℕ → Site → Reduced (Reduced (Reduced Cone Root) Corner) (Option Straight) → Type 0
 IsConeLine P h t m =
     IsDense t.dense h
     (IsCorner (um t.left_corner) (um t.right_corner) (cone_edge h) (IsRoot (um t.edge_distance) (cone_edge h) P))
     m
 
 -- w and h the channel's width and height
-abbrev pub IsEdgeLine : {M : Type 0} → (M → Type 0) → ℕ → ℕ → Site → RootReduction (CornerReduction M) → Type 0
+abbrev pub IsEdgeLine : {M : Type 0} → (M → Type 0) → ℕ → ℕ → Site → Reduced (Reduced M Corner) Root → Type 0
 IsEdgeLine P w h t m =
     IsRoot (um t.thickness) (2 * um t.edge_distance + 2 * um h)
     (IsCorner (um t.left_corner) (um t.right_corner) (2 * um t.edge_distance + um w) P)

@@ -3,7 +3,7 @@
 --   cone_factor g s, edge_factor g s     the factor k for cracked or uncracked concrete
 --   ChannelSheet                         a sheet of the thirteen modes
 --   IsSheet e g v f ψ t s                each line of the sheet s holds the numbers that its rule names
-use Rattle.std.specs.Prelude.{ℕ}
+use Rattle.std.specs.Prelude.{ℕ, Option}
 use Rattle.bolts.specs.declared.bolt.Direction.TheVariants.{Tension, Shear}
 use Rattle.certificate.specs.declared.fields.Edition.{Edition}
 use Rattle.certificate.specs.declared.fields.Geometry.{Geometry}
@@ -11,9 +11,10 @@ use Rattle.certificate.specs.declared.fields.CharacteristicValues.{Characteristi
 use Rattle.certificate.specs.declared.fields.PartialFactors.{PartialFactors}
 use Rattle.certificate.specs.declared.lookup.Concrete.{Concrete}
 use Rattle.certificate.specs.declared.lookup.Concrete.TheVariants.{Cracked, Uncracked}
-use Rattle.failure.specs.declared.root.RootReduction.{RootReduction}
-use Rattle.failure.specs.declared.corner.CornerReduction.{CornerReduction}
-use Rattle.failure.specs.declared.maybe.MaybeReduced.{MaybeReduced}
+use Rattle.failure.specs.declared.reduced.Reduced.{Reduced}
+use Rattle.failure.specs.declared.root.Root.{Root}
+use Rattle.failure.specs.declared.straight.Straight.{Straight}
+use Rattle.failure.specs.declared.corner.Corner.{Corner}
 use Rattle.steel_modes.specs.declared.anchor.AnchorSteel.{AnchorSteel}
 use Rattle.steel_modes.specs.declared.bolt.BoltSteel.{BoltSteel}
 use Rattle.steel_modes.specs.declared.lip.Lip.{Lip}
@@ -37,10 +38,10 @@ edge_factor g Cracked = g.edge_factor_cracked
 edge_factor g Uncracked = g.edge_factor_uncracked
 
 abbrev pub ConeLine : Type 0
-ConeLine = MaybeReduced (CornerReduction (RootReduction Cone))
+ConeLine = Reduced (Reduced (Reduced Cone Root) Corner) (Option Straight)
 
 abbrev pub EdgeLine : Type 0
-EdgeLine = RootReduction (CornerReduction (ByEdition FirstEdge SecondEdge))
+EdgeLine = Reduced (Reduced (ByEdition FirstEdge SecondEdge) Corner) Root
 
 abbrev pub ChannelSheet : Type 0
 ChannelSheet = Sheet AnchorSteel AnchorSteel Lip BoltSteel Flexure PullOut ConeLine BoltSteel Lip AnchorSteel AnchorSteel ConeLine EdgeLine

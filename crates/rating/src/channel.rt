@@ -1,18 +1,13 @@
 // The thirteen lines of a channel on a site.
-ghost use Rattle.std.specs.Prelude.{◌≡◌, ◌≤◌, true};
 ghost use Rattle.certificate.specs.Ranges.{Between, GeometryInRange, ValuesInRange, FactorsInRange};
-ghost use Rattle.concrete_modes.specs.Cones.{cone_well};
-ghost use Rattle.concrete_modes.specs.Edges.{well_of};
-ghost use Rattle.rating.specs.Lines.{cone_factor, edge_factor, IsSheet};
+ghost use Rattle.rating.specs.Lines.{IsSheet};
 
-use crate::concrete_lines::{cone_line, edge_line};
+use crate::concrete_lines::ConcreteBasis;
 use crate::edition::ByEdition;
-use crate::steel::{anchor_steel, bolt_steel, flexure, lip, pull_out};
-use bolts::bolt::Direction;
+use crate::steel::{anchor_steel, bolt_steel, factor_of, flexure, lip, pull_out};
+use bolts::bolt::Direction::{Shear, Tension};
 use certificate::fields::{CharacteristicValues, Edition, Geometry, PartialFactors};
-use certificate::lookup::Concrete;
-use concrete_modes::cone::{Cone, ConeBasis};
-use concrete_modes::edge::EdgeBasis;
+use concrete_modes::cone::Cone;
 use concrete_modes::edge::first::FirstEdge;
 use concrete_modes::edge::second::SecondEdge;
 use failure::corner::CornerReduction;
@@ -53,41 +48,6 @@ pub type ChannelSheet = Sheet<
     EdgeLine,
 >;
 
-fn cone_basis(geometry: Geometry, multiple: u16, site: &Site) -> ConeBasis
-    requires { (GeometryInRange geometry) × ((10 ≤ multiple) × (multiple ≤ 20)) }
-    ensures value { result ≡ record { k = cone_factor geometry site.now.concrete; strength = site.now.strength; depth = geometry.embedment_depth; multiple = multiple } }
-    ensures well { cone_well result.k result.strength result.depth result.multiple ≡ true }
-{
-    let k = match site.concrete {
-        Concrete::Cracked => geometry.cone_factor_cracked,
-        Concrete::Uncracked => geometry.cone_factor_uncracked,
-    };
-    ConeBasis {
-        k: u32::from(k),
-        strength: site.strength,
-        depth: u32::from(geometry.embedment_depth),
-        multiple: u32::from(multiple),
-    }
-}
-
-fn edge_basis(geometry: Geometry, site: &Site) -> EdgeBasis
-    requires { GeometryInRange geometry }
-    ensures value { result ≡ record { k = edge_factor geometry site.now.concrete; strength = site.now.strength; distance = site.now.edge_distance; width = geometry.channel_width; p = site.now.edge_factor } }
-    ensures well { well_of result ≡ true }
-{
-    let k = match site.concrete {
-        Concrete::Cracked => geometry.edge_factor_cracked,
-        Concrete::Uncracked => geometry.edge_factor_uncracked,
-    };
-    EdgeBasis {
-        k: u32::from(k),
-        strength: site.strength,
-        distance: site.edge_distance,
-        width: u32::from(geometry.channel_width),
-        p: site.edge_factor,
-    }
-}
-
 // The lines of a channel, from an accepted certificate's numbers.
 pub(crate) fn lines_of(
     edition: Edition,
@@ -103,37 +63,38 @@ pub(crate) fn lines_of(
     requires listed { Between 20 400 strength_factor }
     ensures { IsSheet edition geometry values factors strength_factor site.now result }
 {
-    let cone = cone_basis(geometry, WHOLE, site);
-    let pry_out = cone_basis(geometry, geometry.pryout_factor, site);
-    let edge = edge_basis(geometry, site);
-    let height = u32::from(geometry.channel_height);
+    let concrete = ConcreteBasis {
+        geometry,
+        factor: factor_of(factors.concrete),
+        site,
+    };
     Sheet {
-        line1: anchor_steel(Direction::Tension, values.anchor, factors.anchor),
-        line2: anchor_steel(Direction::Tension, values.connection, factors.connection),
+        line1: anchor_steel(Tension, values.anchor, factor_of(factors.anchor)),
+        line2: anchor_steel(Tension, values.connection, factor_of(factors.connection)),
         line3: lip(
-            Direction::Tension,
+            Tension,
             values.lip,
-            factors.lip,
+            factor_of(factors.lip),
             geometry.lip_spacing_tension,
         ),
-        line4: bolt_steel(Direction::Tension, values.bolt, factors.bolt),
-        line5: flexure(values.flexure, factors.flexure),
-        line6: pull_out(values.pullout, strength_factor, factors.concrete),
-        line7: cone_line(Direction::Tension, cone, factors.concrete, site),
-        line8: bolt_steel(Direction::Shear, values.bolt_shear, factors.bolt_shear),
+        line4: bolt_steel(Tension, values.bolt, factor_of(factors.bolt)),
+        line5: flexure(values.flexure, factor_of(factors.flexure)),
+        line6: pull_out(values.pullout, strength_factor, concrete.factor),
+        line7: concrete.cone_line(Tension, WHOLE),
+        line8: bolt_steel(Shear, values.bolt_shear, factor_of(factors.bolt_shear)),
         line9: lip(
-            Direction::Shear,
+            Shear,
             values.lip_shear,
-            factors.lip_shear,
+            factor_of(factors.lip_shear),
             geometry.lip_spacing_shear,
         ),
-        line10: anchor_steel(Direction::Shear, values.anchor_shear, factors.anchor_shear),
+        line10: anchor_steel(Shear, values.anchor_shear, factor_of(factors.anchor_shear)),
         line11: anchor_steel(
-            Direction::Shear,
+            Shear,
             values.connection_shear,
-            factors.connection_shear,
+            factor_of(factors.connection_shear),
         ),
-        line12: cone_line(Direction::Shear, pry_out, factors.concrete, site),
-        line13: edge_line(edition, edge, factors.concrete, height, site),
+        line12: concrete.cone_line(Shear, geometry.pryout_factor),
+        line13: concrete.edge_line(edition),
     }
 }

@@ -1,113 +1,104 @@
-// The lines of concrete, from numbers in range. Lengths are in tenths of a millimetre.
-ghost use Rattle.std.specs.Prelude.{◌≡◌, ◌+◌, ◌*◌, ◌≤◌, true};
-ghost use Rattle.steel_modes.specs.Ranges.{factor_well};
-ghost use Rattle.concrete_modes.specs.Cones.{cone_well};
-ghost use Rattle.concrete_modes.specs.Edges.{well_of};
-ghost use Rattle.forces.specs.Cases.{um};
+// The lines of concrete. Lengths are in tenths of a millimetre.
+ghost use Rattle.std.specs.Prelude.{◌≡◌, ◌≤◌};
+ghost use Rattle.certificate.specs.Ranges.{GeometryInRange};
 ghost use Rattle.rating.specs.Concrete.{IsCone, IsEdge, IsConeLine, IsEdgeLine};
+ghost use Rattle.rating.specs.Lines.{cone_factor, edge_factor};
 
+use crate::channel::{ConeLine, EdgeLine};
 use crate::edition::ByEdition;
-use crate::reductions::{by_corner, by_density, by_root};
-use crate::steel::factor_of;
+use crate::reductions::{by_density, um_of};
 use bolts::bolt::Direction;
-use certificate::fields::Edition;
+use certificate::fields::{Edition, Geometry};
+use certificate::lookup::Concrete;
 use concrete_modes::cone::{Cone, ConeBasis};
 use concrete_modes::edge::EdgeBasis;
 use concrete_modes::edge::first::FirstEdge;
 use concrete_modes::edge::second::SecondEdge;
 use failure::corner::CornerReduction;
-use failure::maybe::MaybeReduced;
 use failure::root::RootReduction;
 use site::site::Site;
+use steel_modes::design::PartialFactor;
 
-const UM_IN_TENTH: u64 = 100;
-
-// A length in µm.
-pub(crate) fn um_of(tenths: u32) -> u64
-    ensures { result ≡ um tenths }
-{
-    UM_IN_TENTH * u64::from(tenths)
+// What the lines of concrete are made from: the channel's geometry, the partial factor of concrete, and the site.
+#[derive(Clone, Copy)]
+pub(crate) struct ConcreteBasis<'a> {
+    pub(crate) geometry: Geometry,
+    pub(crate) factor: PartialFactor,
+    pub(crate) site: &'a Site,
+    ghost in_range: { GeometryInRange geometry },
 }
 
-pub(crate) fn cone(direction: Direction, basis: ConeBasis, factor: u16) -> Cone
-    requires { (cone_well basis.k basis.strength basis.depth basis.multiple ≡ true) × (factor_well factor ≡ true) }
-    ensures { IsCone direction basis.k basis.strength basis.depth basis.multiple factor result }
-{
-    match Cone::new(direction, basis, factor_of(factor)) {
-        Some(mode) => mode,
-        None => unreachable(),
+impl ConcreteBasis<'_> {
+    // The cone, with its multiple in tenths.
+    fn cone(&self, direction: Direction, multiple: u16) -> Cone
+        requires { (10 ≤ multiple) × (multiple ≤ 20) }
+        ensures { IsCone direction (cone_factor self.now.geometry self.now.site.now.concrete) self.now.site.now.strength self.now.geometry.embedment_depth multiple self.now.factor.hundredths result }
+    {
+        let k = match self.site.concrete {
+            Concrete::Cracked => self.geometry.cone_factor_cracked,
+            Concrete::Uncracked => self.geometry.cone_factor_uncracked,
+        };
+        let basis = ConeBasis {
+            k: u32::from(k),
+            strength: self.site.strength,
+            depth: u32::from(self.geometry.embedment_depth),
+            multiple: u32::from(multiple),
+        };
+        Cone::new(direction, basis, self.factor).unwrap()
     }
-}
 
-// The edge by the rules of an edition.
-pub(crate) fn edge(
-    edition: Edition,
-    basis: EdgeBasis,
-    factor: u16,
-) -> ByEdition<FirstEdge, SecondEdge>
-    requires { (well_of basis ≡ true) × (factor_well factor ≡ true) }
-    ensures { IsEdge edition basis.k basis.strength basis.distance basis.width basis.p factor result }
-{
-    match edition {
-        Edition::First => ByEdition::First(first_edge(basis, factor)),
-        Edition::Second => ByEdition::Second(second_edge(basis, factor)),
+    // The edge by the rules of an edition.
+    fn edge(&self, edition: Edition) -> ByEdition<FirstEdge, SecondEdge>
+        ensures { IsEdge edition (edge_factor self.now.geometry self.now.site.now.concrete) self.now.site.now.strength self.now.site.now.edge_distance self.now.geometry.channel_width self.now.site.now.edge_factor self.now.factor.hundredths result }
+    {
+        let k = match self.site.concrete {
+            Concrete::Cracked => self.geometry.edge_factor_cracked,
+            Concrete::Uncracked => self.geometry.edge_factor_uncracked,
+        };
+        let basis = EdgeBasis {
+            k: u32::from(k),
+            strength: self.site.strength,
+            distance: self.site.edge_distance,
+            width: u32::from(self.geometry.channel_width),
+            p: self.site.edge_factor,
+        };
+        match edition {
+            Edition::First => ByEdition::First(FirstEdge::new(basis, self.factor).unwrap()),
+            Edition::Second => ByEdition::Second(SecondEdge::new(basis, self.factor).unwrap()),
+        }
     }
-}
 
-fn first_edge(basis: EdgeBasis, factor: u16) -> FirstEdge
-    requires { (well_of basis ≡ true) × (factor_well factor ≡ true) }
-    ensures { (result.basis ≡ basis) × (result.factor.hundredths ≡ factor) }
-{
-    match FirstEdge::new(basis, factor_of(factor)) {
-        Some(mode) => mode,
-        None => unreachable(),
+    // The cone in a direction under its reductions: by the edge distance, by the corners, and for dense reinforcement.
+    pub(crate) fn cone_line(&self, direction: Direction, multiple: u16) -> ConeLine
+        requires { (10 ≤ multiple) × (multiple ≤ 20) }
+        ensures { IsConeLine (IsCone direction (cone_factor self.now.geometry self.now.site.now.concrete) self.now.site.now.strength self.now.geometry.embedment_depth multiple self.now.factor.hundredths) self.now.geometry.embedment_depth self.now.site.now result }
+    {
+        let site = self.site;
+        let cone = self.cone(direction, multiple);
+        let edge = cone.characteristic_edge_distance();
+        let by_edge = RootReduction::new(cone, um_of(site.edge_distance), edge).unwrap();
+        let left = um_of(site.left_corner);
+        let right = um_of(site.right_corner);
+        let by_corners = CornerReduction::new(by_edge, left, right, edge).unwrap();
+        by_density(
+            by_corners,
+            site.dense,
+            u32::from(self.geometry.embedment_depth),
+        )
     }
-}
 
-fn second_edge(basis: EdgeBasis, factor: u16) -> SecondEdge
-    requires { (well_of basis ≡ true) × (factor_well factor ≡ true) }
-    ensures { (result.basis ≡ basis) × (result.factor.hundredths ≡ factor) }
-{
-    match SecondEdge::new(basis, factor_of(factor)) {
-        Some(mode) => mode,
-        None => unreachable(),
+    // The edge by an edition under its reductions: by the corners, and by the member's thickness.
+    pub(crate) fn edge_line(&self, edition: Edition) -> EdgeLine
+        ensures { IsEdgeLine (IsEdge edition (edge_factor self.now.geometry self.now.site.now.concrete) self.now.site.now.strength self.now.site.now.edge_distance self.now.geometry.channel_width self.now.site.now.edge_factor self.now.factor.hundredths) self.now.geometry.channel_width self.now.geometry.channel_height self.now.site.now result }
+    {
+        let site = self.site;
+        let edge = self.edge(edition);
+        let twice = 2 * um_of(site.edge_distance);
+        let width = um_of(u32::from(self.geometry.channel_width));
+        let height = um_of(u32::from(self.geometry.channel_height));
+        let left = um_of(site.left_corner);
+        let right = um_of(site.right_corner);
+        let by_corners = CornerReduction::new(edge, left, right, twice + width).unwrap();
+        RootReduction::new(by_corners, um_of(site.thickness), twice + 2 * height).unwrap()
     }
-}
-
-// The cone in a direction under its reductions: by the edge distance, by the corners, and for dense reinforcement.
-pub(crate) fn cone_line(
-    direction: Direction,
-    basis: ConeBasis,
-    factor: u16,
-    site: &Site,
-) -> MaybeReduced<CornerReduction<RootReduction<Cone>>>
-    requires { (cone_well basis.k basis.strength basis.depth basis.multiple ≡ true) × (factor_well factor ≡ true) }
-    ensures { IsConeLine (IsCone direction basis.k basis.strength basis.depth basis.multiple factor) basis.depth site.now result }
-{
-    let cone = cone(direction, basis, factor);
-    let characteristic = cone.characteristic_edge_distance();
-    let by_edge = by_root(cone, um_of(site.edge_distance), characteristic);
-    let left = um_of(site.left_corner);
-    let right = um_of(site.right_corner);
-    let by_corners = by_corner(by_edge, left, right, characteristic);
-    by_density(by_corners, site.dense, basis.depth)
-}
-
-// The edge by an edition under its reductions: by the corners, and by the member's thickness.
-pub(crate) fn edge_line(
-    edition: Edition,
-    basis: EdgeBasis,
-    factor: u16,
-    height: u32,
-    site: &Site,
-) -> RootReduction<CornerReduction<ByEdition<FirstEdge, SecondEdge>>>
-    requires { (well_of basis ≡ true) × ((factor_well factor ≡ true) × ((height ≤ 600) × (basis.distance ≡ site.now.edge_distance))) }
-    ensures { IsEdgeLine (IsEdge edition basis.k basis.strength basis.distance basis.width basis.p factor) basis.width height site.now result }
-{
-    let edge = edge(edition, basis, factor);
-    let twice = 2 * um_of(site.edge_distance);
-    let left = um_of(site.left_corner);
-    let right = um_of(site.right_corner);
-    let by_corners = by_corner(edge, left, right, twice + um_of(basis.width));
-    by_root(by_corners, um_of(site.thickness), twice + 2 * um_of(height))
 }

@@ -13,13 +13,8 @@ use certificate::lookup::{Concrete, entry_of, lookup};
 fn factor_in(cracked: &[u8], uncracked: &[u8], concrete: Concrete, strength: u16) -> Option<u16>
     ensures { FactorIn (chosen_list cracked.now uncracked.now concrete) strength result }
 {
-    match lookup(cracked, uncracked, concrete, strength) {
-        Some(tail) => match entry_of(tail, 0) {
-            Some(entry) => Some(entry.factor),
-            None => None,
-        },
-        None => None,
-    }
+    let tail = lookup(cracked, uncracked, concrete, strength)?;
+    entry_of(tail, 0).map(|entry| entry.factor)
 }
 
 // The factor of a strength class in a certificate's list for a state of the concrete; none where no entry has the class.

@@ -39,14 +39,10 @@ fn prepared_on(certificate: &Certificate<'_>, site: &Site) -> Option<Prepared>
         spacing: site.spacing,
         inertia: geometry.moment_of_inertia,
     };
-    match strength_factor(certificate, site.concrete, site.strength as u16) {
-        Some(factor) => {
-            let edition = certificate.edition();
-            let sheet = lines_of(edition, geometry, values, factors, factor, site);
-            Some(Prepared { sheet, opening })
-        }
-        None => None,
-    }
+    let strength_factor = strength_factor(certificate, site.concrete, site.strength as u16)?;
+    let edition = certificate.edition();
+    let sheet = lines_of(edition, geometry, values, factors, strength_factor, site);
+    Some(Prepared { sheet, opening })
 }
 
 impl Prepared {
@@ -56,9 +52,6 @@ impl Prepared {
     {
         let certificate = Certificate::read(bytes)?;
         let site = site_for(&certificate, numbers)?;
-        match prepared_on(&certificate, &site) {
-            Some(prepared) => Ok(prepared),
-            None => Err(SheetFault::Strength),
-        }
+        prepared_on(&certificate, &site).ok_or(SheetFault::Strength)
     }
 }

@@ -1,28 +1,22 @@
-use Rattle.std.proofs.Common.{◌≡◌, ℕ, true, List, subst}
-use Rattle.certificate.specs.Lookup.{Absent}
-use Rattle.site.specs.Sites.{numbers_of}
+use Rattle.std.proofs.Common.{◌≡◌, ℕ, List, Some, None, Ok, Option}
+use Rattle.std.specs.Prelude.{ok_or}
+use Rattle.certificate.specs.Reading.{refusal}
 use Rattle.site.specs.declared.numbers.SiteNumbers.{SiteNumbers}
-use Rattle.site.specs.declared.site.Site.{Site}
-use Rattle.rating.specs.Sheets.{list_in, in_range, IsPrepared, OnSite}
+use Rattle.site.specs.declared.site.Site as declared
+use Rattle.rating.specs.Sheets.{SiteFor, PreparedOn, SheetFor}
+use Rattle.rating.specs.declared.prepared.Prepared.{Prepared}
+use Rattle.rating.specs.declared.fault.SheetFault.TheVariants.{Strength}
 use Rattle.rating.proofs.prepared.Prepared.new.Goals as goal
 
--- what holds of the certificate's bytes holds of the caller's, which they are
-on_site : (P : List ℕ → Site → Type 0) (bs xs : List ℕ) (n : SiteNumbers) (t : Site) → xs ≡ bs → in_range xs n ≡ true → numbers_of t ≡ n → P xs t → OnSite bs n (P bs)
-on_site P bs xs n t is fits numbers holds = record {
-  fits = subst (λ ys. in_range ys n ≡ true) is fits;
-  site = t;
-  numbers = numbers;
-  holds = subst (λ ys. P ys t) is holds;
-}
+-- what is known of the parts is what is known of the sheet
+sheet_for : (bs : List ℕ) (n : SiteNumbers) (t : declared.Site) (r : Option Prepared) → refusal bs ≡ Ok tt → SiteFor bs n (Ok t) → PreparedOn bs t r → SheetFor bs n (ok_or r Strength)
+sheet_for bs n t (Some p) accepted on h = (accepted, record { fits = on.0; site = t; numbers = on.1; holds = h })
+sheet_for bs n t None accepted on h = (accepted, record { fits = on.0; site = t; numbers = on.1; holds = h })
 
-pub returns-in-Some : goal.returns-in-Some
-returns-in-Some c =
+pub returns : goal.returns
+returns c =
     let held = c.in_ok-certificate.ensures.held in
-    let t = c.in_ok-site.ensures in
-    (held.1, on_site (λ bs t. IsPrepared bs t c.in-Some.prepared) c.args.bytes.now _ _ c.in_ok-site.site held.0 t.0 t.1 c.in-Some.ensures)
-
-pub returns-in-None : goal.returns-in-None
-returns-in-None c =
-    let held = c.in_ok-certificate.ensures.held in
-    let t = c.in_ok-site.ensures in
-    (held.1, on_site (λ bs t. Absent (list_in bs t.concrete) t.strength) c.args.bytes.now _ _ c.in_ok-site.site held.0 t.0 t.1 c.in-None.ensures)
+    let t = c.in_ok-site.site in
+    let on : SiteFor c.args.bytes.now c.args.numbers (Ok t) = rw held.0 at c.in_ok-site.ensures in
+    let made : PreparedOn c.args.bytes.now t c.prepared_on.result = rw held.0 at c.prepared_on.ensures in
+    rw c.ok_or.ensures.value (sheet_for _ _ t c.prepared_on.result held.1 on made)
