@@ -60,8 +60,7 @@ impl FailureMode for Flexure {
     }
 
     fn effect(&self, case: &ClosedCase, place: usize) -> Option<u64> {
-        let here = case.bolts().get(place)?;
-        Some(moment(case, *here))
+        moment(case, place)
     }
 
     fn resistance(&self, case: &ClosedCase, place: usize) -> Option<u64> {

@@ -4,8 +4,9 @@ ghost use Rattle.std.specs.Prelude.{◌≡◌, ℕ, ◌%◌, ◌<◌, ◌≤◌,
 ghost use Rattle.bolts.specs.Bolts.{bolt_at};
 ghost use Rattle.forces.specs.Cases.{um};
 ghost use Rattle.loadcase.specs.Closed.{closed_case};
+ghost use Rattle.failure.specs.Meanings.{at_place};
 ghost use Rattle.steel_modes.specs.Ranges.{bending_well};
-ghost use Rattle.steel_modes.specs.Spans.{offset, part_up};
+ghost use Rattle.steel_modes.specs.Spans.{offset, part_up, moment_at};
 
 use crate::arithmetic::MILLI;
 use bolts::bolt::Bolt;
@@ -30,14 +31,15 @@ pub(crate) fn is_bending_well(value: u32) -> bool
     (LEAST_BENDING..=MOST_BENDING).contains(&value)
 }
 
-// The moment at a bolt, of what all bolts add to it.
-pub(crate) fn moment(case: &ClosedCase, here: Bolt) -> u64
-    ensures { result ≡ sum_by (part_up (closed_case case.now).opening.spacing here) (closed_case case.now).bolts }
+// The moment at a bolt, of what all bolts add to it; none past the last.
+pub(crate) fn moment(case: &ClosedCase, place: usize) -> Option<u64>
+    ensures { result ≡ at_place (length (closed_case case.now).bolts) (λ i. moment_at (closed_case case.now) i) place }
 {
+    let here = case.bolts().get(place)?;
     let spans = Spans {
         spacing: case.opening().spacing,
     };
-    spans.moment(case.bolts(), here)
+    Some(spans.moment(case.bolts(), *here))
 }
 
 // The spans of the channel between its anchors, whose spacing is in tenths.
