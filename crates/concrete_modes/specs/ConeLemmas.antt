@@ -3,16 +3,13 @@ use Rattle.std.proofs.Common.{ℕ, ◌+◌, ◌*◌, ◌/◌, ◌≤◌, refl, m
 use native.Mathlib.Nat.{div-le_of_le-mul}
 use Rattle.fractions.specs.Fractions.{Fraction, AtMost, whole, plus}
 use Rattle.fractions.proofs.Powers.{pow_two}
-use Rattle.fractions.proofs.Orders.{at_most_trans, plus_rises, at_most_refl}
 use Rattle.roots.specs.Extremes.{Greatest}
 use Rattle.roots.proofs.Roots.{square_root_is}
 use Rattle.bolts.specs.Loads.{total_load}
 use Rattle.bolts.specs.declared.bolt.Direction.{Direction}
 use Rattle.forces.specs.Cases.{Case, Valid}
-use Rattle.failure.specs.Meanings.{LawfulAt, excess, shortfall}
-use Rattle.groups.specs.Groups.{group_effect, low_effect, high_effect}
+use Rattle.failure.specs.Meanings.{LawfulAt, shortfall}
 use Rattle.groups.specs.declared.spacing.CharacteristicSpacing.{CharacteristicSpacing}
-use Rattle.groups.proofs.Effects.{effect_covers, effect_near}
 use Rattle.steel_modes.specs.Quotients.{proper_factor}
 use Rattle.steel_modes.specs.declared.design.PartialFactor.{PartialFactor}
 use Rattle.steel_modes.specs.QuotientLemmas.{equal_below, equal_above}
@@ -20,7 +17,7 @@ use Rattle.concrete.specs.Cone.{cone_resistance, LowCone, HighCone, low_cone, hi
 use Rattle.concrete.proofs.Cone.{cone_safe, cone_close}
 use Rattle.concrete_modes.specs.Cones.{cone_meaning, square_of, value_of}
 use Rattle.concrete_modes.specs.declared.cone.ConeBasis.{ConeBasis}
-use Rattle.concrete_modes.specs.Groups.{effect_le, low_choice, high_choice}
+use Rattle.concrete_modes.specs.Groups.{effect_le, some_low, some_high, group_safe, group_close}
 
 low_root : (N : ℕ) → LowCone N
 low_root N = record { root = whole 0; is_low = omega arith }
@@ -44,24 +41,17 @@ module _ (d : Direction) (S : CharacteristicSpacing) (b : ConeBasis) (f : Partia
       let γ = f.hundredths in
       let pos = proper_factor f in
       let is : Greatest (λ n. n * n ≤ N / 10) x = square_root_is (N / 10) (omega (arith, small)) in
-      let l = low_choice S.um S.some c i v in
-      let h = high_choice S.um S.some c i v in
-      let W = total_load d c.bolts in
-      let E = group_effect S.um c d i in
       let R = cone_resistance x γ in
       record {
         effect_fits = effect_le S.um S.some c d i v;
         resistance_fits = value_le x γ (root_le x (N / 10) is.fits (omega (arith, small))) f.least;
-        some_low_effect = (low_effect l d, (l, refl));
-        some_high_effect = (high_effect h d, (h, refl));
+        some_low_effect = some_low S c d i v;
+        some_high_effect = some_high S c d i v;
         some_low_resistance = (low_cone γ pos (low_root N), (low_root N, refl));
         some_high_resistance = (high_cone γ pos (high_root N), (high_root N, refl));
-        effect_safe = λ q r. equal_below q (low_effect r.0 d) (whole E) r.1 (effect_covers S.um S.some c d i v r.0);
+        effect_safe = group_safe S c d i v;
         resistance_safe = λ q r. equal_above q (high_cone γ pos r.0) (whole R) r.1 (cone_safe N x γ f.least is pos r.0);
-        effect_close = λ _ q r.
-            let H = high_effect r.0 d in
-            at_most_trans (whole E) (plus H (excess W)) (plus q (excess W)) (effect_near S.um S.some c d i v r.0)
-            (plus_rises H q (excess W) (excess W) (equal_above q H H r.1 (at_most_refl H)) (at_most_refl (excess W)));
+        effect_close = λ _. group_close S c d i v;
         resistance_close = λ _ q r.
             let near = equal_below q (low_cone γ pos r.0) (plus (whole R) (whole 2)) r.1 (cone_close N x γ f.least is pos r.0) in
             close R q near;

@@ -1,22 +1,19 @@
 -- The edge keeps what every mode owes.
 use Rattle.std.proofs.Common.{ℕ, ◌+◌, ◌*◌, ◌/◌, ◌<◌, ◌≤◌, refl, mul-le-mul_right, mul-le-mul_left, div-mul-le_self, le_of_mul-le-mul_right, arith, lit<}
 use native.Mathlib.Nat.{lt-div-mul-add}
-use Rattle.fractions.specs.Fractions.{Fraction, AtMost, whole, over, plus, times}
-use Rattle.fractions.proofs.Orders.{at_most_trans, plus_rises, at_most_refl}
+use Rattle.fractions.specs.Fractions.{Fraction, AtMost, whole, over, times}
 use Rattle.bolts.specs.Loads.{total_load}
 use Rattle.bolts.specs.declared.bolt.Direction.TheVariants.{Shear}
 use Rattle.forces.specs.Cases.{Case, Valid}
-use Rattle.failure.specs.Meanings.{Readings, Exactly, LawfulAt, excess}
+use Rattle.failure.specs.Meanings.{Readings, Exactly, LawfulAt}
 use Rattle.failure.specs.Shortfalls.{near_at_most}
-use Rattle.groups.specs.Groups.{group_effect, low_effect, high_effect}
 use Rattle.groups.specs.declared.spacing.CharacteristicSpacing.{CharacteristicSpacing}
-use Rattle.groups.proofs.Effects.{effect_covers, effect_near}
 use Rattle.steel_modes.specs.Quotients.{proper_factor}
 use Rattle.steel_modes.specs.declared.design.PartialFactor.{PartialFactor}
-use Rattle.steel_modes.specs.QuotientLemmas.{equal_below, equal_above, quotient_fits}
+use Rattle.steel_modes.specs.QuotientLemmas.{equal_above, quotient_fits}
 use Rattle.concrete.specs.Edge.{edge_resistance}
 use Rattle.concrete_modes.specs.Edges.{edge_meaning}
-use Rattle.concrete_modes.specs.Groups.{effect_le, low_choice, high_choice}
+use Rattle.concrete_modes.specs.Groups.{effect_le, some_low, some_high, group_safe, group_close}
 
 scaled_safe : (x p γ : ℕ) (pos : 0 < γ) (r : Fraction) → AtMost (whole x) r → AtMost (whole (x * p / γ)) (times (over p γ pos) r)
 scaled_safe x p γ pos r h = omega (arith, mul-le-mul_right r.below (div-mul-le_self (x * p) γ), mul-le-mul_left p h)
@@ -39,24 +36,17 @@ module _ (S : CharacteristicSpacing) (x p : ℕ) (f : PartialFactor) (lo hi : Re
       let γ = f.hundredths in
       let pos = proper_factor f in
       let y = over p γ pos in
-      let l = low_choice S.um S.some c i v in
-      let h = high_choice S.um S.some c i v in
-      let W = total_load Shear c.bolts in
-      let E = group_effect S.um c Shear i in
       let R = edge_resistance x p γ in
       record {
         effect_fits = effect_le S.um S.some c Shear i v;
         resistance_fits = quotient_fits (x * p) γ f.least fits;
-        some_low_effect = (low_effect l Shear, (l, refl));
-        some_high_effect = (high_effect h Shear, (h, refl));
+        some_low_effect = some_low S c Shear i v;
+        some_high_effect = some_high S c Shear i v;
         some_low_resistance = (times y some-lo.0, (some-lo.0, some-lo.1, refl));
         some_high_resistance = (times y some-hi.0, (some-hi.0, some-hi.1, refl));
-        effect_safe = λ q r. equal_below q (low_effect r.0 Shear) (whole E) r.1 (effect_covers S.um S.some c Shear i v r.0);
+        effect_safe = group_safe S c Shear i v;
         resistance_safe = λ q r. equal_above q (times y r.0) (whole R) r.2 (scaled_safe x p γ pos r.0 (safe r.0 r.1));
-        effect_close = λ _ q r.
-            let H = high_effect r.0 Shear in
-            at_most_trans (whole E) (plus H (excess W)) (plus q (excess W)) (effect_near S.um S.some c Shear i v r.0)
-            (plus_rises H q (excess W) (excess W) (equal_above q H H r.1 (at_most_refl H)) (at_most_refl (excess W)));
+        effect_close = λ _. group_close S c Shear i v;
         resistance_close = λ _ q r.
             let g = r.0 in
             let a = scaled_close x p γ pos f.least small g.above g.below (omega (arith, close g r.1)) in

@@ -1,6 +1,29 @@
 -- How great the numbers of an edge can be.
-use Rattle.std.proofs.Common.{ℕ, ◌*◌, ◌^◌, ◌≤◌, mul-le-mul, arith}
+use Rattle.std.proofs.Common.{◌≡◌, ℕ, ◌*◌, ◌^◌, ◌≤◌, true, mul-le-mul, arith}
+use Rattle.std.proofs.lemmas.Bool.Decides.{nat_tests}
 use Rattle.concrete.specs.Edge.{edge_square}
+use Rattle.concrete_modes.specs.Edges.{well_of}
+use Rattle.concrete_modes.specs.declared.edge.EdgeBasis.{EdgeBasis}
+
+-- the numbers of a basis in range
+module _ (b : EdgeBasis) (r : well_of b ≡ true) where
+  pub k_most : b.k ≤ 110
+  k_most = grind (arith, nat_tests)
+
+  pub strength_most : b.strength ≤ 75
+  strength_most = grind (arith, nat_tests)
+
+  pub strength_least : 12 ≤ b.strength
+  strength_least = grind (arith, nat_tests)
+
+  pub distance_most : b.distance ≤ 5000
+  distance_most = grind (arith, nat_tests)
+
+  pub distance_least : 250 ≤ b.distance
+  distance_least = grind (arith, nat_tests)
+
+  pub p_most : b.p ≤ 140
+  p_most = grind (arith, nat_tests)
 
 pub strength_le : (g f : ℕ) → f ≤ 75 → g * g ≤ f * 10 ^ 12 → g ≤ 9000000
 strength_le g f small h =

@@ -1,6 +1,23 @@
 -- How great the numbers of a cone can be.
-use Rattle.std.proofs.Common.{ℕ, ◌-◌, ◌*◌, ◌≤◌, mul-le-mul, arith}
+use Rattle.std.proofs.Common.{◌≡◌, ℕ, ◌-◌, ◌*◌, ◌≤◌, true, mul-le-mul, arith}
+use Rattle.std.proofs.lemmas.Bool.Decides.{nat_tests}
 use Rattle.concrete.specs.Cone.{cone_square}
+use Rattle.concrete_modes.specs.Cones.{cone_well}
+use Rattle.concrete_modes.specs.declared.cone.ConeBasis.{ConeBasis}
+
+-- the numbers of a basis in range
+module _ (b : ConeBasis) (r : cone_well b.k b.strength b.depth b.multiple ≡ true) where
+  pub k_most : b.k ≤ 130
+  k_most = grind (arith, nat_tests)
+
+  pub strength_most : b.strength ≤ 75
+  strength_most = grind (arith, nat_tests)
+
+  pub depth_most : b.depth ≤ 2500
+  depth_most = grind (arith, nat_tests)
+
+  pub multiple_most : b.multiple ≤ 20
+  multiple_most = grind (arith, nat_tests)
 
 pub factor_le : (k f : ℕ) → k ≤ 130 → f ≤ 75 → k * k * f ≤ 1267500
 factor_le k f a b =

@@ -3,12 +3,11 @@ ghost use Rattle.std.specs.Prelude.{◌≡◌, ◌≤◌, true};
 ghost use Rattle.steel_modes.specs.Ranges.{Made};
 ghost use Rattle.concrete.specs.Cone.{cone_spacing, cone_edge};
 ghost use Rattle.concrete_modes.specs.Cones.{cone_well, cone_meaning};
-ghost use Rattle.std.proofs.Common.{rules, arith};
+ghost use Rattle.std.proofs.Common.{rules};
 
-use crate::cone::basis::{basic_value, characteristic_spacing, is_cone_well};
 use bolts::bolt::Direction;
 use failure::mode::FailureMode;
-use failure::places::{PlaceKind, Places};
+use failure::places::Places;
 use groups::effect::group_effect;
 use groups::spacing::CharacteristicSpacing;
 use loadcase::closed::ClosedCase;
@@ -45,17 +44,13 @@ impl Cone {
     pub fn new(direction: Direction, basis: ConeBasis, factor: PartialFactor) -> Option<Self>
         ensures { Made (cone_well basis.k basis.strength basis.depth basis.multiple) (λ m. (m.direction ≡ direction) × (m.basis ≡ basis) × (m.factor ≡ factor)) result }
     {
-        if is_cone_well(basis) {
-            let spacing = characteristic_spacing(basis);
-            Some(Cone {
-                direction,
-                basis,
-                factor,
-                spacing,
-            })
-        } else {
-            None
-        }
+        let spacing = basis.characteristic_spacing()?;
+        Some(Cone {
+            direction,
+            basis,
+            factor,
+            spacing,
+        })
     }
 
     // The characteristic edge distance in µm: half of the characteristic spacing, up.
@@ -75,11 +70,11 @@ impl FailureMode for Cone {
 
     ghost lawful = { λ m. cone_keeps m.basis m.ranged m.direction m.spacing m.factor };
 
-    ghost few = { first_of (Prim.search rules, Prim.grind (arith, Self.row.coded.inj)) };
+    ghost few = { Prim.search rules };
 
-    ghost allows = { first_of (Prim.search rules, Prim.grind (arith, Self.row.coded.inj)) };
+    ghost allows = { Prim.search rules };
 
-    ghost fixed = { first_of (Prim.search rules, Prim.grind (arith, Self.row.coded.inj)) };
+    ghost fixed = { Prim.search rules };
 
     fn allowance(&self) -> u32 {
         0
@@ -90,10 +85,7 @@ impl FailureMode for Cone {
     }
 
     fn places(&self, case: &ClosedCase) -> Places {
-        Places {
-            kind: PlaceKind::Anchors,
-            count: case.opening().anchors as usize,
-        }
+        Places::on_anchors(case)
     }
 
     fn effect(&self, case: &ClosedCase, place: usize) -> Option<u64> {
@@ -101,10 +93,7 @@ impl FailureMode for Cone {
     }
 
     fn resistance(&self, case: &ClosedCase, place: usize) -> Option<u64> {
-        if place < case.opening().anchors as usize {
-            Some(basic_value(self.basis).design(self.factor).value)
-        } else {
-            None
-        }
+        let design = self.basic_value().design(self.factor);
+        self.places(case).at_each(design.value, place)
     }
 }

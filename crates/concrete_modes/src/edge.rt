@@ -3,6 +3,9 @@ pub(crate) mod basis;
 pub mod first;
 pub mod second;
 
+// The allowance of either edition, in millionths.
+const ALLOWANCE: u32 = 10;
+
 // What the resistance of the edge is reckoned from: the factor k in tenths, the strength in N/mm², the edge distance
 // and the channel width in tenths of a millimetre, and the factor p for the edge's reinforcement in hundredths.
 #[derive(Clone, Copy)]

@@ -10,6 +10,8 @@ use failure::mode::FailureMode;
 use failure::root::RootReduction;
 use failure::straight::StraightReduction;
 use loadcase::closed::ClosedCase;
+use std::error::Error;
+use std::fmt;
 use steel_modes::anchor::AnchorSteel;
 use steel_modes::bolt::BoltSteel;
 use steel_modes::design::PartialFactor;
@@ -17,14 +19,51 @@ use steel_modes::flexure::Flexure;
 use steel_modes::lip::Lip;
 use steel_modes::pullout::PullOut;
 
-// What comes of a mode at a place.
+// Effect and resistance of a mode at a place.
 #[derive(Clone, Copy)]
-pub enum Figures {
-    At { effect: u64, resistance: u64 },
+pub struct Figures {
+    effect: u64,
+    resistance: u64,
+}
+
+impl fmt::Display for Figures {
+    fn fmt<W: fmt::Write>(&self, f: &mut fmt::Formatter<W>) -> fmt::Result {
+        let effect = self.effect;
+        let resistance = self.resistance;
+        write!(f, "{effect} {resistance}")
+    }
+}
+
+// Why there are none.
+#[derive(Clone, Copy, Debug)]
+pub enum NoFigures {
+    NoCase,
     NoPlace,
     OutOfRange,
     Refused(Refusal),
 }
+
+impl From<Refusal> for NoFigures {
+    fn from(refusal: Refusal) -> NoFigures {
+        NoFigures::Refused(refusal)
+    }
+}
+
+impl fmt::Display for NoFigures {
+    fn fmt<W: fmt::Write>(&self, f: &mut fmt::Formatter<W>) -> fmt::Result {
+        match self {
+            NoFigures::NoCase => write!(f, "no case"),
+            NoFigures::NoPlace => write!(f, "no place"),
+            NoFigures::OutOfRange => write!(f, "out of range"),
+            NoFigures::Refused(refusal) => {
+                let number = refusal.number();
+                write!(f, "refused {number}")
+            }
+        }
+    }
+}
+
+impl Error for NoFigures {}
 
 // A place of a case, from 0.
 #[derive(Clone, Copy)]
@@ -33,112 +72,88 @@ pub struct Place<'a> {
     pub index: usize,
 }
 
+impl Place<'_> {
+    fn figures<M: FailureMode>(self, mode: &M) -> Result<Figures, NoFigures> {
+        let effect = mode.effect(self.case, self.index);
+        let resistance = mode.resistance(self.case, self.index);
+        Ok(Figures {
+            effect: effect.ok_or(NoFigures::NoPlace)?,
+            resistance: resistance.ok_or(NoFigures::NoPlace)?,
+        })
+    }
+}
+
 impl Mode {
-    pub(crate) fn figures(self, place: Place<'_>) -> Figures {
+    pub(crate) fn figures(self, place: Place<'_>) -> Result<Figures, NoFigures> {
         match self {
-            Mode::Anchor(direction, steel) => made(anchor_steel(direction, steel), place),
-            Mode::Bolt(direction, steel) => made(bolt_steel(direction, steel), place),
-            Mode::Lip(direction, steel, spacing) => made(lip(direction, steel, spacing), place),
-            Mode::PullOut(steel, strength) => made(pull_out(steel, strength), place),
-            Mode::Flexure(steel) => made(flexure(steel), place),
-            Mode::Cone(direction, basis, factor) => match PartialFactor::new(factor) {
-                Some(factor) => made(Cone::new(direction, basis, factor), place),
-                None => Figures::OutOfRange,
-            },
-            Mode::FirstEdge(basis, factor) => match PartialFactor::new(factor) {
-                Some(factor) => made(FirstEdge::new(basis, factor), place),
-                None => Figures::OutOfRange,
-            },
-            Mode::SecondEdge(basis, factor) => match PartialFactor::new(factor) {
-                Some(factor) => made(SecondEdge::new(basis, factor), place),
-                None => Figures::OutOfRange,
-            },
-            Mode::Root(steel, a, b) => root(anchor_steel(Direction::Tension, steel), a, b, place),
+            Mode::Anchor(direction, steel) => place.figures(&steel.anchor(direction)?),
+            Mode::Bolt(direction, steel) => place.figures(&steel.bolt(direction)?),
+            Mode::Lip(direction, steel, spacing) => place.figures(&steel.lip(direction, spacing)?),
+            Mode::PullOut(steel, strength) => place.figures(&steel.pull_out(strength)?),
+            Mode::Flexure(steel) => place.figures(&steel.flexure()?),
+            Mode::Cone(direction, basis, factor) => {
+                let cone = Cone::new(direction, basis, partial(factor)?);
+                place.figures(&cone.ok_or(NoFigures::OutOfRange)?)
+            }
+            Mode::FirstEdge(basis, factor) => {
+                let edge = FirstEdge::new(basis, partial(factor)?);
+                place.figures(&edge.ok_or(NoFigures::OutOfRange)?)
+            }
+            Mode::SecondEdge(basis, factor) => {
+                let edge = SecondEdge::new(basis, partial(factor)?);
+                place.figures(&edge.ok_or(NoFigures::OutOfRange)?)
+            }
+            Mode::Root(steel, a, b) => {
+                let anchor = steel.anchor(Direction::Tension)?;
+                place.figures(&RootReduction::new(anchor, u64::from(a), u64::from(b))?)
+            }
             Mode::Straight(steel, a, b) => {
-                straight(anchor_steel(Direction::Tension, steel), a, b, place)
+                let anchor = steel.anchor(Direction::Tension)?;
+                place.figures(&StraightReduction::new(anchor, u64::from(a), u64::from(b))?)
             }
             Mode::AnchorCorner(steel, corners) => {
-                corner(anchor_steel(Direction::Tension, steel), corners, place)
+                place.figures(&corners.near(steel.anchor(Direction::Tension)?)?)
             }
             Mode::BoltCorner(steel, corners) => {
-                corner(bolt_steel(Direction::Tension, steel), corners, place)
+                place.figures(&corners.near(steel.bolt(Direction::Tension)?)?)
             }
         }
     }
 }
 
-fn of<M: FailureMode>(mode: &M, place: Place<'_>) -> Figures {
-    let effect = mode.effect(place.case, place.index);
-    let resistance = mode.resistance(place.case, place.index);
-    match (effect, resistance) {
-        (Some(effect), Some(resistance)) => Figures::At { effect, resistance },
-        _ => Figures::NoPlace,
+impl Steel {
+    fn anchor(self, direction: Direction) -> Result<AnchorSteel, NoFigures> {
+        AnchorSteel::new(direction, self.value, partial(self.factor)?).ok_or(NoFigures::OutOfRange)
+    }
+
+    fn bolt(self, direction: Direction) -> Result<BoltSteel, NoFigures> {
+        BoltSteel::new(direction, self.value, partial(self.factor)?).ok_or(NoFigures::OutOfRange)
+    }
+
+    fn lip(self, direction: Direction, spacing: u32) -> Result<Lip, NoFigures> {
+        let factor = partial(self.factor)?;
+        Lip::new(direction, self.value, factor, spacing).ok_or(NoFigures::OutOfRange)
+    }
+
+    fn pull_out(self, strength: u32) -> Result<PullOut, NoFigures> {
+        PullOut::new(self.value, strength, partial(self.factor)?).ok_or(NoFigures::OutOfRange)
+    }
+
+    fn flexure(self) -> Result<Flexure, NoFigures> {
+        Flexure::new(self.value, partial(self.factor)?).ok_or(NoFigures::OutOfRange)
     }
 }
 
-fn made<M: FailureMode + Drop>(mode: Option<M>, place: Place<'_>) -> Figures {
-    match mode {
-        Some(mode) => of(&mode, place),
-        None => Figures::OutOfRange,
+impl Corners {
+    // A mode near them.
+    fn near<M: FailureMode + Drop>(self, mode: M) -> Result<CornerReduction<M>, Refusal> {
+        let first = u64::from(self.first);
+        let last = u64::from(self.last);
+        CornerReduction::new(mode, first, last, u64::from(self.b))
     }
 }
 
-fn reduced<M: FailureMode + Drop>(mode: Result<M, Refusal>, place: Place<'_>) -> Figures {
-    match mode {
-        Ok(mode) => of(&mode, place),
-        Err(refusal) => Figures::Refused(refusal),
-    }
-}
-
-fn root<M: FailureMode + Drop>(mode: Option<M>, a: u32, b: u32, place: Place<'_>) -> Figures {
-    match mode {
-        Some(mode) => reduced(RootReduction::new(mode, u64::from(a), u64::from(b)), place),
-        None => Figures::OutOfRange,
-    }
-}
-
-fn straight<M: FailureMode + Drop>(mode: Option<M>, a: u32, b: u32, place: Place<'_>) -> Figures {
-    match mode {
-        Some(mode) => reduced(
-            StraightReduction::new(mode, u64::from(a), u64::from(b)),
-            place,
-        ),
-        None => Figures::OutOfRange,
-    }
-}
-
-fn corner<M: FailureMode + Drop>(mode: Option<M>, corners: Corners, place: Place<'_>) -> Figures {
-    let Corners { first, last, b } = corners;
-    match mode {
-        Some(mode) => reduced(
-            CornerReduction::new(mode, u64::from(first), u64::from(last), u64::from(b)),
-            place,
-        ),
-        None => Figures::OutOfRange,
-    }
-}
-
-fn anchor_steel(direction: Direction, steel: Steel) -> Option<AnchorSteel> {
-    AnchorSteel::new(direction, steel.value, PartialFactor::new(steel.factor)?)
-}
-
-fn bolt_steel(direction: Direction, steel: Steel) -> Option<BoltSteel> {
-    BoltSteel::new(direction, steel.value, PartialFactor::new(steel.factor)?)
-}
-
-fn lip(direction: Direction, steel: Steel, spacing: u32) -> Option<Lip> {
-    Lip::new(
-        direction,
-        steel.value,
-        PartialFactor::new(steel.factor)?,
-        spacing,
-    )
-}
-
-fn pull_out(steel: Steel, strength: u32) -> Option<PullOut> {
-    PullOut::new(steel.value, strength, PartialFactor::new(steel.factor)?)
-}
-
-fn flexure(steel: Steel) -> Option<Flexure> {
-    Flexure::new(steel.value, PartialFactor::new(steel.factor)?)
+// The partial factor of this many hundredths.
+fn partial(hundredths: u32) -> Result<PartialFactor, NoFigures> {
+    PartialFactor::new(hundredths).ok_or(NoFigures::OutOfRange)
 }

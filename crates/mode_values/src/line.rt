@@ -4,8 +4,7 @@ use bolts::bolt::Bolt;
 use forces::opening::Opening;
 use std::alloc::Global;
 use std::str::from_utf8;
-
-const MOST_DIGITS: usize = 9;
+use text_pieces::numeral::number_in;
 
 #[derive(Clone, Copy)]
 pub enum Line {
@@ -15,58 +14,43 @@ pub enum Line {
     Place(Bolt),
     // Print the figures of a mode at a place, from 1.
     Mode(Mode, u32),
-    NotUnderstood,
 }
 
 impl Line {
-    // Reads a line, with its line feed or, at the end of the input, without.
-    pub(crate) fn parse(heap: Global, bytes: &[u8]) -> anyhow::Result<Line> {
+    // Reads a line, with its line feed or, at the end of the input, without; none where it says nothing known.
+    pub(crate) fn parse(heap: Global, bytes: &[u8]) -> anyhow::Result<Option<Line>> {
         let Ok(line) = from_utf8(bytes) else {
-            return Ok(Line::NotUnderstood);
+            return Ok(None);
         };
         let mut words = line.strip_suffix('\n').unwrap_or(line).split(' ');
         let Some(word) = words.next() else {
-            return Ok(Line::NotUnderstood);
+            return Ok(None);
         };
         let mut numbers = Vec::new(heap);
         for text in words {
-            match number_in(text) {
-                Some(number) => numbers.push(number)?,
-                None => return Ok(Line::NotUnderstood),
-            }
+            let Some(number) = number_in(text.as_bytes()) else {
+                return Ok(None);
+            };
+            numbers.push(number)?;
         }
-        Ok(said(word, numbers.as_slice()))
+        Ok(Line::said(word, numbers.as_slice()))
     }
-}
 
-fn said(word: &str, numbers: &[u32]) -> Line {
-    match (word, numbers) {
-        ("open", [anchors, spacing, inertia]) => Line::Open(Opening {
-            anchors: *anchors,
-            spacing: *spacing,
-            inertia: *inertia,
-        }),
-        ("place", [position, tension, shear]) => Line::Place(Bolt {
-            position: *position,
-            tension: *tension,
-            shear: *shear,
-        }),
-        (_, [place, numbers @ ..]) => match Mode::parse(word, numbers) {
-            Some(mode) => Line::Mode(mode, *place),
-            None => Line::NotUnderstood,
-        },
-        _ => Line::NotUnderstood,
-    }
-}
-
-// The number that 1 to 9 digits write; none where the word is no such numeral.
-fn number_in(word: &str) -> Option<u32> {
-    if word.len() > MOST_DIGITS {
-        return None;
-    }
-    match word.as_bytes() {
-        // no sign before the digits, which `parse` would take
-        [b'0'..=b'9', ..] => word.parse::<u32>().ok(),
-        _ => None,
+    // The line of a word and its numbers.
+    fn said(word: &str, numbers: &[u32]) -> Option<Line> {
+        match (word, numbers) {
+            ("open", [anchors, spacing, inertia]) => Some(Line::Open(Opening {
+                anchors: *anchors,
+                spacing: *spacing,
+                inertia: *inertia,
+            })),
+            ("place", [position, tension, shear]) => Some(Line::Place(Bolt {
+                position: *position,
+                tension: *tension,
+                shear: *shear,
+            })),
+            (_, [place, numbers @ ..]) => Some(Line::Mode(Mode::parse(word, numbers)?, *place)),
+            _ => None,
+        }
     }
 }

@@ -24,28 +24,12 @@ mod mode;
 use anyhow::anyhow;
 use bolts::bolt::Bolt;
 use bolts::fault::Fault;
-use bolts::refusal::Refusal;
-use figures::{Figures, Place};
+use figures::{Figures, NoFigures, Place};
 use forces::opening::Opening;
 use line::Line;
 use loadcase::open::OpenCase;
 use mode::Mode;
-use std::io;
 use std::io::{BufRead, BufReader};
-
-fn print_refusal(rt: &HostRuntime, refusal: Refusal) -> io::Result<()> {
-    let number = refusal.number();
-    println!(rt; "refused {number}")
-}
-
-fn print_figures(rt: &HostRuntime, figures: Figures) -> io::Result<()> {
-    match figures {
-        Figures::At { effect, resistance } => println!(rt; "{effect} {resistance}"),
-        Figures::NoPlace => println!(rt; "no place"),
-        Figures::OutOfRange => println!(rt; "out of range"),
-        Figures::Refused(refusal) => print_refusal(rt, refusal),
-    }
-}
 
 fn open(rt: &HostRuntime, held: &mut Option<OpenCase>, opening: Opening) -> anyhow::Result<()> {
     match OpenCase::open(rt.alloc(), opening) {
@@ -53,44 +37,41 @@ fn open(rt: &HostRuntime, held: &mut Option<OpenCase>, opening: Opening) -> anyh
             *held = Some(case);
             Ok(())
         }
-        Err(Fault::Refused(refusal)) => Ok(print_refusal(rt, refusal)?),
+        Err(Fault::Refused(refusal)) => Ok(println!(rt; "{}", NoFigures::from(refusal))?),
         Err(Fault::Memory) => Err(anyhow!("no memory for the case")),
     }
 }
 
-fn show(rt: &HostRuntime, held: &mut Option<OpenCase>, mode: Mode, place: u32) -> io::Result<()> {
-    let Some(case) = held.take() else {
-        return println!(rt; "no case");
-    };
-    let closed = case.close();
+fn place(held: &mut Option<OpenCase>, bolt: Bolt) -> Result<(), NoFigures> {
+    let case = held.as_mut().ok_or(NoFigures::NoCase)?;
+    Ok(case.place(bolt)?)
+}
+
+fn figures_at(held: &mut Option<OpenCase>, mode: Mode, place: u32) -> Result<Figures, NoFigures> {
+    let closed = held.take().ok_or(NoFigures::NoCase)?.close();
     let figures = match place.checked_sub(1) {
         Some(index) => mode.figures(Place {
             case: &closed,
             index: index as usize,
         }),
-        None => Figures::NoPlace,
+        None => Err(NoFigures::NoPlace),
     };
     *held = Some(closed.reopen());
-    print_figures(rt, figures)
-}
-
-fn place(rt: &HostRuntime, held: &mut Option<OpenCase>, bolt: Bolt) -> io::Result<()> {
-    match held {
-        Some(case) => match case.place(bolt) {
-            Ok(()) => Ok(()),
-            Err(refusal) => print_refusal(rt, refusal),
-        },
-        None => println!(rt; "no case"),
-    }
+    figures
 }
 
 fn follow(rt: &HostRuntime, held: &mut Option<OpenCase>, line: Line) -> anyhow::Result<()> {
     match line {
-        Line::Open(opening) => open(rt, held, opening),
-        Line::Place(bolt) => Ok(place(rt, held, bolt)?),
-        Line::Mode(mode, place) => Ok(show(rt, held, mode, place)?),
-        Line::NotUnderstood => Ok(println!(rt; "not understood")?),
+        Line::Open(opening) => open(rt, held, opening)?,
+        Line::Place(bolt) => if let Err(none) = place(held, bolt) {
+            println!(rt; "{none}")?;
+        },
+        Line::Mode(mode, place) => match figures_at(held, mode, place) {
+            Ok(figures) => println!(rt; "{figures}")?,
+            Err(none) => println!(rt; "{none}")?,
+        },
     }
+    Ok(())
 }
 
 fn run(rt: &HostRuntime) -> anyhow::Result<()> {
@@ -103,8 +84,10 @@ fn run(rt: &HostRuntime) -> anyhow::Result<()> {
         if input.read_until(b'\n', &mut bytes)? == 0 {
             break;
         }
-        let line = Line::parse(rt.alloc(), bytes.as_slice())?;
-        follow(rt, &mut held, line)?;
+        match Line::parse(rt.alloc(), bytes.as_slice())? {
+            Some(line) => follow(rt, &mut held, line)?,
+            None => println!(rt; "not understood")?,
+        }
     }
     Ok(())
 }

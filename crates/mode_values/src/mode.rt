@@ -45,19 +45,14 @@ pub enum Mode {
 impl Mode {
     // The mode that a word and its numbers name; none where there is no such mode.
     pub(crate) fn parse(word: &str, numbers: &[u32]) -> Option<Mode> {
-        match numbers {
-            [value, factor, rest @ ..] => {
-                let steel = Steel {
-                    value: *value,
-                    factor: *factor,
-                };
-                match steel_mode(word, steel, rest) {
-                    Some(mode) => Some(mode),
-                    None => concrete_mode(word, numbers),
-                }
-            }
-            _ => None,
-        }
+        let [value, factor, rest @ ..] = numbers else {
+            return None;
+        };
+        let steel = Steel {
+            value: *value,
+            factor: *factor,
+        };
+        steel_mode(word, steel, rest).or_else(|| concrete_mode(word, numbers))
     }
 }
 

@@ -2,10 +2,10 @@
 ghost use Rattle.std.specs.Prelude.{◌≡◌, true};
 ghost use Rattle.steel_modes.specs.Ranges.{Made, value_or_none};
 ghost use Rattle.steel_modes.specs.Anchored.{anchor_steel_meaning};
-ghost use Rattle.std.proofs.Common.{rules, arith};
+ghost use Rattle.std.proofs.Common.{rules};
 
-use crate::arithmetic::{at_each, from_newtons, is_value_well};
-use crate::design::PartialFactor;
+use crate::arithmetic::is_value_well;
+use crate::design::{Characteristic, PartialFactor};
 use bolts::bolt::Direction;
 use failure::mode::FailureMode;
 use failure::places::{PlaceKind, Places};
@@ -16,6 +16,7 @@ use loadcase::closed::ClosedCase;
 #[derive(Clone, Copy)]
 pub struct AnchorSteel {
     direction: Direction,
+    // no Option: contracts of the crates above read the number, 0 included
     value: u32,
     factor: PartialFactor,
     ghost ranged: { value_or_none value ≡ true },
@@ -45,11 +46,11 @@ impl FailureMode for AnchorSteel {
 
     ghost lawful = { λ m. anchor_steel_lawful m.direction m.value m.factor m.ranged };
 
-    ghost few = { first_of (Prim.search rules, Prim.grind (arith, Self.row.coded.inj)) };
+    ghost few = { Prim.search rules };
 
-    ghost allows = { first_of (Prim.search rules, Prim.grind (arith, Self.row.coded.inj)) };
+    ghost allows = { Prim.search rules };
 
-    ghost fixed = { first_of (Prim.search rules, Prim.grind (arith, Self.row.coded.inj)) };
+    ghost fixed = { Prim.search rules };
 
     fn allowance(&self) -> u32 {
         0
@@ -66,10 +67,7 @@ impl FailureMode for AnchorSteel {
                 count: 0,
             }
         } else {
-            Places {
-                kind: PlaceKind::Anchors,
-                count: case.opening().anchors as usize,
-            }
+            Places::on_anchors(case)
         }
     }
 
@@ -82,11 +80,7 @@ impl FailureMode for AnchorSteel {
     }
 
     fn resistance(&self, case: &ClosedCase, place: usize) -> Option<u64> {
-        let count = self.places(case).count;
-        at_each(
-            count,
-            from_newtons(self.value).design(self.factor).value,
-            place,
-        )
+        let design = Characteristic::from_newtons(self.value).design(self.factor);
+        self.places(case).at_each(design.value, place)
     }
 }

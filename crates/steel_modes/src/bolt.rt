@@ -2,13 +2,13 @@
 ghost use Rattle.std.specs.Prelude.{◌≡◌, true};
 ghost use Rattle.steel_modes.specs.Ranges.{Made, value_well};
 ghost use Rattle.steel_modes.specs.Bolted.{bolt_steel_meaning};
-ghost use Rattle.std.proofs.Common.{rules, arith};
+ghost use Rattle.std.proofs.Common.{rules};
 
-use crate::arithmetic::{at_each, bolt_load, from_newtons, is_value_well};
-use crate::design::PartialFactor;
+use crate::arithmetic::{bolt_load, is_value_well};
+use crate::design::{Characteristic, PartialFactor};
 use bolts::bolt::Direction;
 use failure::mode::FailureMode;
-use failure::places::{PlaceKind, Places};
+use failure::places::Places;
 use loadcase::closed::ClosedCase;
 
 // The steel of a bolt in a direction: the characteristic resistance in N, and its partial factor.
@@ -44,11 +44,11 @@ impl FailureMode for BoltSteel {
 
     ghost lawful = { λ m. bolt_steel_lawful m.direction m.value m.factor m.ranged };
 
-    ghost few = { first_of (Prim.search rules, Prim.grind (arith, Self.row.coded.inj)) };
+    ghost few = { Prim.search rules };
 
-    ghost allows = { first_of (Prim.search rules, Prim.grind (arith, Self.row.coded.inj)) };
+    ghost allows = { Prim.search rules };
 
-    ghost fixed = { first_of (Prim.search rules, Prim.grind (arith, Self.row.coded.inj)) };
+    ghost fixed = { Prim.search rules };
 
     fn allowance(&self) -> u32 {
         0
@@ -59,10 +59,7 @@ impl FailureMode for BoltSteel {
     }
 
     fn places(&self, case: &ClosedCase) -> Places {
-        Places {
-            kind: PlaceKind::Bolts,
-            count: case.bolts().len(),
-        }
+        Places::on_bolts(case)
     }
 
     fn effect(&self, case: &ClosedCase, place: usize) -> Option<u64> {
@@ -70,10 +67,7 @@ impl FailureMode for BoltSteel {
     }
 
     fn resistance(&self, case: &ClosedCase, place: usize) -> Option<u64> {
-        at_each(
-            case.bolts().len(),
-            from_newtons(self.value).design(self.factor).value,
-            place,
-        )
+        let design = Characteristic::from_newtons(self.value).design(self.factor);
+        self.places(case).at_each(design.value, place)
     }
 }

@@ -2,14 +2,13 @@
 ghost use Rattle.std.specs.Prelude.{◌≡◌, true};
 ghost use Rattle.steel_modes.specs.Ranges.{Made, bending_well};
 ghost use Rattle.steel_modes.specs.Flexed.{flexure_meaning};
-ghost use Rattle.std.proofs.Common.{rules, arith};
+ghost use Rattle.std.proofs.Common.{rules};
 
-use crate::arithmetic::{at_each, from_newtons};
-use crate::design::PartialFactor;
+use crate::design::{Characteristic, PartialFactor};
 use crate::flexure::moment::{is_bending_well, moment};
 use bolts::bolt::Direction;
 use failure::mode::FailureMode;
-use failure::places::{PlaceKind, Places};
+use failure::places::Places;
 use loadcase::closed::ClosedCase;
 
 mod moment;
@@ -42,11 +41,11 @@ impl FailureMode for Flexure {
 
     ghost lawful = { λ m. flexure_keeps m.value m.factor m.ranged };
 
-    ghost few = { first_of (Prim.search rules, Prim.grind (arith, Self.row.coded.inj)) };
+    ghost few = { Prim.search rules };
 
-    ghost allows = { first_of (Prim.search rules, Prim.grind (arith, Self.row.coded.inj)) };
+    ghost allows = { Prim.search rules };
 
-    ghost fixed = { first_of (Prim.search rules, Prim.grind (arith, Self.row.coded.inj)) };
+    ghost fixed = { Prim.search rules };
 
     fn allowance(&self) -> u32 {
         0
@@ -57,25 +56,15 @@ impl FailureMode for Flexure {
     }
 
     fn places(&self, case: &ClosedCase) -> Places {
-        Places {
-            kind: PlaceKind::Bolts,
-            count: case.bolts().len(),
-        }
+        Places::on_bolts(case)
     }
 
     fn effect(&self, case: &ClosedCase, place: usize) -> Option<u64> {
-        if place < case.bolts().len() {
-            Some(moment(case, place))
-        } else {
-            None
-        }
+        moment(case, place)
     }
 
     fn resistance(&self, case: &ClosedCase, place: usize) -> Option<u64> {
-        at_each(
-            case.bolts().len(),
-            from_newtons(self.value).design(self.factor).value,
-            place,
-        )
+        let design = Characteristic::from_newtons(self.value).design(self.factor);
+        self.places(case).at_each(design.value, place)
     }
 }

@@ -2,14 +2,14 @@
 ghost use Rattle.std.specs.Prelude.{◌≡◌, true, ◌&&◌};
 ghost use Rattle.steel_modes.specs.Ranges.{Made, value_well, spacing_well};
 ghost use Rattle.steel_modes.specs.Lips.{lip_meaning};
-ghost use Rattle.std.proofs.Common.{rules, arith};
+ghost use Rattle.std.proofs.Common.{rules};
 
 use crate::arithmetic::{bolt_load, is_value_well};
 use crate::design::PartialFactor;
-use crate::lip::spacing::{is_spacing_well, lip_resistance, nearest_of};
+use crate::lip::spacing::{is_spacing_well, nearest_of};
 use bolts::bolt::Direction;
 use failure::mode::FailureMode;
-use failure::places::{PlaceKind, Places};
+use failure::places::Places;
 use loadcase::closed::ClosedCase;
 
 mod spacing;
@@ -56,11 +56,11 @@ impl FailureMode for Lip {
 
     ghost lawful = { λ m. lip_lawful m.direction m.value m.factor m.spacing m.ranged };
 
-    ghost few = { first_of (Prim.search rules, Prim.grind (arith, Self.row.coded.inj)) };
+    ghost few = { Prim.search rules };
 
-    ghost allows = { first_of (Prim.search rules, Prim.grind (arith, Self.row.coded.inj)) };
+    ghost allows = { Prim.search rules };
 
-    ghost fixed = { first_of (Prim.search rules, Prim.grind (arith, Self.row.coded.inj)) };
+    ghost fixed = { Prim.search rules };
 
     fn allowance(&self) -> u32 {
         0
@@ -71,10 +71,7 @@ impl FailureMode for Lip {
     }
 
     fn places(&self, case: &ClosedCase) -> Places {
-        Places {
-            kind: PlaceKind::Bolts,
-            count: case.bolts().len(),
-        }
+        Places::on_bolts(case)
     }
 
     fn effect(&self, case: &ClosedCase, place: usize) -> Option<u64> {
@@ -86,6 +83,6 @@ impl FailureMode for Lip {
             return None;
         }
         let nearest = nearest_of(case, place);
-        Some(lip_resistance(self.value, self.factor, self.spacing, nearest))
+        Some(self.resistance_by(nearest))
     }
 }

@@ -1,15 +1,27 @@
 // The pull-out of an anchor.
-ghost use Rattle.std.specs.Prelude.{◌≡◌, true, ◌&&◌};
+ghost use Rattle.std.specs.Prelude.{◌≡◌, ◌*◌, true, ◌&&◌};
 ghost use Rattle.steel_modes.specs.Ranges.{Made, value_well, strength_well};
 ghost use Rattle.steel_modes.specs.Anchored.{pull_out_meaning};
-ghost use Rattle.std.proofs.Common.{rules, arith};
+ghost use Rattle.std.proofs.Common.{rules};
 
-use crate::arithmetic::{at_each, by_strength, is_strength_well, is_value_well};
-use crate::design::PartialFactor;
+use crate::arithmetic::{MILLI, is_value_well};
+use crate::design::{Characteristic, PartialFactor};
 use bolts::bolt::Direction;
 use failure::mode::FailureMode;
-use failure::places::{PlaceKind, Places};
+use failure::places::Places;
 use loadcase::closed::ClosedCase;
+
+// The least and the greatest strength factor, in hundredths.
+const LEAST_STRENGTH: u32 = 20;
+
+const MOST_STRENGTH: u32 = 400;
+
+// Whether a strength factor in hundredths is in range.
+fn is_strength_well(strength: u32) -> bool
+    ensures { result ≡ strength_well strength }
+{
+    (LEAST_STRENGTH..=MOST_STRENGTH).contains(&strength)
+}
 
 // The pull-out in tension: the characteristic resistance in N, the factor for the concrete's strength in hundredths,
 // and the partial factor of concrete.
@@ -37,6 +49,15 @@ impl PullOut {
             None
         }
     }
+
+    // The value times the strength factor.
+    fn characteristic(&self) -> Characteristic
+        ensures { result.hundredths ≡ self.now.value * 1000 * self.now.strength }
+    {
+        Characteristic {
+            hundredths: u64::from(self.value) * MILLI * u64::from(self.strength),
+        }
+    }
 }
 
 impl FailureMode for PullOut {
@@ -46,11 +67,11 @@ impl FailureMode for PullOut {
 
     ghost lawful = { λ m. pull_out_lawful m.value m.strength m.factor m.ranged m.strong };
 
-    ghost few = { first_of (Prim.search rules, Prim.grind (arith, Self.row.coded.inj)) };
+    ghost few = { Prim.search rules };
 
-    ghost allows = { first_of (Prim.search rules, Prim.grind (arith, Self.row.coded.inj)) };
+    ghost allows = { Prim.search rules };
 
-    ghost fixed = { first_of (Prim.search rules, Prim.grind (arith, Self.row.coded.inj)) };
+    ghost fixed = { Prim.search rules };
 
     fn allowance(&self) -> u32 {
         0
@@ -61,10 +82,7 @@ impl FailureMode for PullOut {
     }
 
     fn places(&self, case: &ClosedCase) -> Places {
-        Places {
-            kind: PlaceKind::Anchors,
-            count: case.opening().anchors as usize,
-        }
+        Places::on_anchors(case)
     }
 
     fn effect(&self, case: &ClosedCase, place: usize) -> Option<u64> {
@@ -72,8 +90,7 @@ impl FailureMode for PullOut {
     }
 
     fn resistance(&self, case: &ClosedCase, place: usize) -> Option<u64> {
-        let count = case.opening().anchors as usize;
-        let design = by_strength(self.value, self.strength).design(self.factor);
-        at_each(count, design.value, place)
+        let design = self.characteristic().design(self.factor);
+        self.places(case).at_each(design.value, place)
     }
 }

@@ -1,9 +1,10 @@
 // The basic resistance of the cone, and its characteristic spacing.
-ghost use Rattle.std.specs.Prelude.{◌≡◌, ◌*◌, ◌<◌, ◌≤◌, true};
+ghost use Rattle.std.specs.Prelude.{◌≡◌, ◌*◌, ◌≤◌};
+ghost use Rattle.steel_modes.specs.Ranges.{Made};
 ghost use Rattle.concrete.specs.Cone.{cone_square, cone_value, cone_spacing};
 ghost use Rattle.concrete_modes.specs.Cones.{cone_well};
 
-use crate::cone::ConeBasis;
+use crate::cone::{Cone, ConeBasis};
 use groups::spacing::CharacteristicSpacing;
 use roots::division::{Divisor, div_up};
 use roots::whole::square_root;
@@ -34,61 +35,55 @@ const PARTS: u64 = 90;
 
 const LEAST_MULTIPLE_OF_DEPTH: u64 = 300;
 
+// What the multiple, in tenths, leaves over under the root of its square.
+const TENTHS: u64 = 10;
+
 // Hundredths of a mN in the unit of the basic value.
 const UNIT: u64 = 100;
 
-// Whether all numbers are in range.
-pub(crate) fn is_cone_well(basis: ConeBasis) -> bool
-    ensures { result ≡ cone_well basis.k basis.strength basis.depth basis.multiple }
-{
-    basis.k >= LEAST_K
-        && basis.k <= MOST_K
-        && basis.strength >= LEAST_STRENGTH
-        && basis.strength <= MOST_STRENGTH
-        && basis.depth >= LEAST_DEPTH
-        && basis.depth <= MOST_DEPTH
-        && basis.multiple >= LEAST_MULTIPLE
-        && basis.multiple <= MOST_MULTIPLE
-}
+impl ConeBasis {
+    // Whether all numbers are in range.
+    fn is_well(self) -> bool
+        ensures { result ≡ cone_well self.k self.strength self.depth self.multiple }
+    {
+        (LEAST_K..=MOST_K).contains(&self.k)
+            && (LEAST_STRENGTH..=MOST_STRENGTH).contains(&self.strength)
+            && (LEAST_DEPTH..=MOST_DEPTH).contains(&self.depth)
+            && (LEAST_MULTIPLE..=MOST_MULTIPLE).contains(&self.multiple)
+    }
 
-// The characteristic spacing in µm, from the embedment depth in tenths.
-fn spacing_of(depth: u64) -> u64
-    requires { (400 ≤ depth) × (depth ≤ 2500) }
-    ensures value { result ≡ cone_spacing depth }
-    ensures some { 0 < result }
-    ensures small { result ≤ 2500000 }
-{
-    let wide = div_up(depth * (WIDEST - STEP * depth), Divisor { number: PARTS });
-    wide.max(LEAST_MULTIPLE_OF_DEPTH * depth)
-}
-
-// The characteristic spacing of a basis.
-pub(crate) fn characteristic_spacing(basis: ConeBasis) -> CharacteristicSpacing
-    requires { (400 ≤ basis.depth) × (basis.depth ≤ 2500) }
-    ensures { result.um ≡ cone_spacing basis.depth }
-{
-    CharacteristicSpacing {
-        um: spacing_of(u64::from(basis.depth)),
+    // The characteristic spacing; none where a number is out of range.
+    pub(crate) fn characteristic_spacing(self) -> Option<CharacteristicSpacing>
+        ensures { Made (cone_well self.k self.strength self.depth self.multiple) (λ s. s.um ≡ cone_spacing self.depth) result }
+    {
+        if !self.is_well() {
+            return None;
+        }
+        let depth = u64::from(self.depth);
+        let wide = div_up(depth * (WIDEST - STEP * depth), Divisor { number: PARTS });
+        Some(CharacteristicSpacing {
+            um: wide.max(LEAST_MULTIPLE_OF_DEPTH * depth),
+        })
     }
 }
 
-// Ten times the square of the basic value.
-fn square_of(basis: ConeBasis) -> u64
-    requires { cone_well basis.k basis.strength basis.depth basis.multiple ≡ true }
-    ensures { result ≡ cone_square basis.k basis.strength basis.depth basis.multiple }
-{
-    let k = u64::from(basis.k);
-    let depth = u64::from(basis.depth);
-    let multiple = u64::from(basis.multiple);
-    k * k * u64::from(basis.strength) * (depth * depth * depth) * (multiple * multiple)
-}
+impl Cone {
+    // The basic resistance, as a characteristic value.
+    pub(crate) fn basic_value(&self) -> Characteristic
+        ensures { result.hundredths ≡ cone_value self.now.basis.k self.now.basis.strength self.now.basis.depth self.now.basis.multiple * 100 }
+    {
+        Characteristic {
+            hundredths: square_root(self.square() / TENTHS) * UNIT,
+        }
+    }
 
-// The basic resistance, as a characteristic value.
-pub(crate) fn basic_value(basis: ConeBasis) -> Characteristic
-    requires { cone_well basis.k basis.strength basis.depth basis.multiple ≡ true }
-    ensures { result.hundredths ≡ cone_value basis.k basis.strength basis.depth basis.multiple * 100 }
-{
-    Characteristic {
-        hundredths: square_root(square_of(basis) / 10) * UNIT,
+    // Ten times the square of the basic value.
+    fn square(&self) -> u64
+        ensures { result ≡ cone_square self.now.basis.k self.now.basis.strength self.now.basis.depth self.now.basis.multiple }
+    {
+        let k = u64::from(self.basis.k);
+        let depth = u64::from(self.basis.depth);
+        let multiple = u64::from(self.basis.multiple);
+        k * k * u64::from(self.basis.strength) * (depth * depth * depth) * (multiple * multiple)
     }
 }

@@ -1,22 +1,22 @@
 // The concrete edge by the rules of edition 1.
-ghost use Rattle.std.specs.Prelude.{◌≡◌, true};
+ghost use Rattle.std.specs.Prelude.{◌≡◌, ◌<◌, true};
 ghost use Rattle.steel_modes.specs.Ranges.{Made};
+ghost use Rattle.concrete.specs.Edge.{edge_first, edge_square};
 ghost use Rattle.concrete_modes.specs.Edges.{well_of, edge_spacing, first_meaning};
-ghost use Rattle.std.proofs.Common.{rules, arith};
+ghost use Rattle.std.proofs.Common.{rules};
 
-use crate::edge::EdgeBasis;
-use crate::edge::basis::{edge_spacing, first_value, is_edge_well};
+use crate::edge::{ALLOWANCE, EdgeBasis};
 use bolts::bolt::Direction;
 use failure::mode::FailureMode;
-use failure::places::{PlaceKind, Places};
+use failure::places::Places;
 use groups::effect::group_effect;
 use groups::spacing::CharacteristicSpacing;
 use loadcase::closed::ClosedCase;
+use roots::whole::square_root;
 use steel_modes::design::{Characteristic, PartialFactor};
 
-const ALLOWANCE: u32 = 10;
-
 // The edge in shear, with the partial factor of concrete.
+// A type of its own: the edge of each edition is a failure mode beside the others.
 #[derive(Clone, Copy)]
 pub struct FirstEdge {
     basis: EdgeBasis,
@@ -31,16 +31,29 @@ impl FirstEdge {
     pub fn new(basis: EdgeBasis, factor: PartialFactor) -> Option<Self>
         ensures { Made (well_of basis) (λ m. (m.basis ≡ basis) × (m.factor ≡ factor)) result }
     {
-        if is_edge_well(basis) {
-            let spacing = edge_spacing(basis);
-            Some(FirstEdge {
-                basis,
-                factor,
-                spacing,
-            })
-        } else {
-            None
-        }
+        let spacing = basis.characteristic_spacing()?;
+        Some(FirstEdge {
+            basis,
+            factor,
+            spacing,
+        })
+    }
+
+    // The value by edition 1, in mN.
+    fn value(&self) -> u64
+        ensures value { result ≡ edge_first self.now.basis.k self.now.basis.strength self.now.basis.distance }
+        ensures small { result < 4294967296 }
+    {
+        square_root(self.square())
+    }
+
+    // The square of the value.
+    fn square(&self) -> u64
+        ensures { result ≡ edge_square self.now.basis.k self.now.basis.strength self.now.basis.distance }
+    {
+        let k = u64::from(self.basis.k);
+        let c = u64::from(self.basis.distance);
+        k * k * u64::from(self.basis.strength) * (c * c * c) * 10
     }
 }
 
@@ -51,11 +64,11 @@ impl FailureMode for FirstEdge {
 
     ghost lawful = { λ m. first_keeps m.basis m.ranged m.spacing m.factor };
 
-    ghost few = { first_of (Prim.search rules, Prim.grind (arith, Self.row.coded.inj)) };
+    ghost few = { Prim.search rules };
 
-    ghost allows = { first_of (Prim.search rules, Prim.grind (arith, Self.row.coded.inj)) };
+    ghost allows = { Prim.search rules };
 
-    ghost fixed = { first_of (Prim.search rules, Prim.grind (arith, Self.row.coded.inj)) };
+    ghost fixed = { Prim.search rules };
 
     fn allowance(&self) -> u32 {
         ALLOWANCE
@@ -66,10 +79,7 @@ impl FailureMode for FirstEdge {
     }
 
     fn places(&self, case: &ClosedCase) -> Places {
-        Places {
-            kind: PlaceKind::Anchors,
-            count: case.opening().anchors as usize,
-        }
+        Places::on_anchors(case)
     }
 
     fn effect(&self, case: &ClosedCase, place: usize) -> Option<u64> {
@@ -77,10 +87,8 @@ impl FailureMode for FirstEdge {
     }
 
     fn resistance(&self, case: &ClosedCase, place: usize) -> Option<u64> {
-        if place >= case.opening().anchors as usize {
-            return None;
-        }
-        let hundredths = first_value(self.basis) * u64::from(self.basis.p);
-        Some(Characteristic { hundredths }.design(self.factor).value)
+        let hundredths = self.value() * u64::from(self.basis.p);
+        let design = Characteristic { hundredths }.design(self.factor);
+        self.places(case).at_each(design.value, place)
     }
 }

@@ -1,22 +1,31 @@
 // The concrete edge by the rules of edition 2.
-ghost use Rattle.std.specs.Prelude.{◌≡◌, true};
+ghost use Rattle.std.specs.Prelude.{◌≡◌, ◌≤◌, true};
 ghost use Rattle.steel_modes.specs.Ranges.{Made};
+ghost use Rattle.concrete.specs.Edge.{edge_second, strength_root, distance_root};
 ghost use Rattle.concrete_modes.specs.Edges.{well_of, edge_spacing, second_meaning};
-ghost use Rattle.std.proofs.Common.{rules, arith};
+ghost use Rattle.std.proofs.Common.{rules};
 
-use crate::edge::EdgeBasis;
-use crate::edge::basis::{edge_spacing, is_edge_well, second_value};
+use crate::edge::{ALLOWANCE, EdgeBasis};
 use bolts::bolt::Direction;
 use failure::mode::FailureMode;
-use failure::places::{PlaceKind, Places};
+use failure::places::Places;
 use groups::effect::group_effect;
 use groups::spacing::CharacteristicSpacing;
 use loadcase::closed::ClosedCase;
+use roots::whole::{cube_root, square_root};
 use steel_modes::design::{Characteristic, PartialFactor};
 
-const ALLOWANCE: u32 = 10;
+// What the strength is multiplied by under its square root, for millionths, and the edge distance in tenths under its
+// cube root, for hundred-thousandths of that in mm.
+const STRENGTH_SCALE: u64 = 1_000_000_000_000;
+
+const DISTANCE_SCALE: u64 = 100_000_000_000_000;
+
+// What the product of both roots is divided by, for mN.
+const BOTH_SCALES: u64 = 10_000_000_000;
 
 // The edge in shear, with the partial factor of concrete.
+// A type of its own: the edge of each edition is a failure mode beside the others.
 #[derive(Clone, Copy)]
 pub struct SecondEdge {
     basis: EdgeBasis,
@@ -31,17 +40,41 @@ impl SecondEdge {
     pub fn new(basis: EdgeBasis, factor: PartialFactor) -> Option<Self>
         ensures { Made (well_of basis) (λ m. (m.basis ≡ basis) × (m.factor ≡ factor)) result }
     {
-        if is_edge_well(basis) {
-            let spacing = edge_spacing(basis);
-            Some(SecondEdge {
-                basis,
-                factor,
-                spacing,
-            })
-        } else {
-            None
-        }
+        let spacing = basis.characteristic_spacing()?;
+        Some(SecondEdge {
+            basis,
+            factor,
+            spacing,
+        })
     }
+
+    // The value by edition 2, in mN.
+    fn value(&self) -> u64
+        ensures value { result ≡ edge_second self.now.basis.k self.now.basis.strength self.now.basis.distance }
+        ensures small { result ≤ 400000000 }
+    {
+        let g = strength_root(self.basis.strength);
+        let t = distance_root(self.basis.distance);
+        u64::from(self.basis.k) * g * u64::from(self.basis.distance) * t / BOTH_SCALES
+    }
+}
+
+// The square root of the strength, in millionths.
+fn strength_root(strength: u32) -> u64
+    requires { strength ≤ 75 }
+    ensures value { result ≡ strength_root strength }
+    ensures small { result ≤ 9000000 }
+{
+    square_root(u64::from(strength) * STRENGTH_SCALE)
+}
+
+// The cube root of the edge distance in mm, in hundred-thousandths.
+fn distance_root(distance: u32) -> u64
+    requires { distance ≤ 5000 }
+    ensures value { result ≡ distance_root distance }
+    ensures small { result ≤ 800000 }
+{
+    cube_root(u64::from(distance) * DISTANCE_SCALE)
 }
 
 impl FailureMode for SecondEdge {
@@ -51,11 +84,11 @@ impl FailureMode for SecondEdge {
 
     ghost lawful = { λ m. second_keeps m.basis m.ranged m.spacing m.factor };
 
-    ghost few = { first_of (Prim.search rules, Prim.grind (arith, Self.row.coded.inj)) };
+    ghost few = { Prim.search rules };
 
-    ghost allows = { first_of (Prim.search rules, Prim.grind (arith, Self.row.coded.inj)) };
+    ghost allows = { Prim.search rules };
 
-    ghost fixed = { first_of (Prim.search rules, Prim.grind (arith, Self.row.coded.inj)) };
+    ghost fixed = { Prim.search rules };
 
     fn allowance(&self) -> u32 {
         ALLOWANCE
@@ -66,10 +99,7 @@ impl FailureMode for SecondEdge {
     }
 
     fn places(&self, case: &ClosedCase) -> Places {
-        Places {
-            kind: PlaceKind::Anchors,
-            count: case.opening().anchors as usize,
-        }
+        Places::on_anchors(case)
     }
 
     fn effect(&self, case: &ClosedCase, place: usize) -> Option<u64> {
@@ -77,10 +107,8 @@ impl FailureMode for SecondEdge {
     }
 
     fn resistance(&self, case: &ClosedCase, place: usize) -> Option<u64> {
-        if place >= case.opening().anchors as usize {
-            return None;
-        }
-        let hundredths = second_value(self.basis) * u64::from(self.basis.p);
-        Some(Characteristic { hundredths }.design(self.factor).value)
+        let hundredths = self.value() * u64::from(self.basis.p);
+        let design = Characteristic { hundredths }.design(self.factor);
+        self.places(case).at_each(design.value, place)
     }
 }
