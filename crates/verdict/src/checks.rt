@@ -4,6 +4,7 @@ ghost use Rattle.verdict.specs.Checks.{bolt_steel, channel, anchor, concrete, ch
 ghost use Rattle.verdict.specs.PlaceChecks.{sound_at, sound};
 ghost use Rattle.verdict.specs.Rows.{row_lines};
 
+use crate::answer::CombinedCheck;
 use crate::lines::{LINES, PLACES};
 use crate::row::Row;
 use crate::table::{largest_at, used_at};
@@ -95,21 +96,21 @@ fn concrete_holds(rows: &[Row; LINES]) -> bool
     concrete_sum(rows) <= MOST_CONCRETE
 }
 
-// The number of the first check that fails, or 0.
-pub(crate) fn first_failed(rows: &[Row; LINES]) -> u8
+// The first check that fails.
+pub(crate) fn first_failed(rows: &[Row; LINES]) -> Option<CombinedCheck>
     ensures { result ≡ failed_check (row_lines rows.now) }
 {
     if !holds(rows, PlaceCheck::BoltSteel) {
-        return 1;
+        return Some(CombinedCheck::BoltSteel);
     }
     if !holds(rows, PlaceCheck::Channel) {
-        return 2;
+        return Some(CombinedCheck::Channel);
     }
     if !holds(rows, PlaceCheck::Anchor) {
-        return 3;
+        return Some(CombinedCheck::Anchor);
     }
     if !concrete_holds(rows) {
-        return 4;
+        return Some(CombinedCheck::Concrete);
     }
-    0
+    None
 }

@@ -1,12 +1,12 @@
 // The verdict on thirteen rows.
-ghost use Rattle.std.specs.Prelude.{◌≡◌, ◌&&◌, nat_eq};
+ghost use Rattle.std.specs.Prelude.{◌≡◌, ◌&&◌, is_none};
 ghost use Rattle.verdict.specs.Lines.{line_count};
 ghost use Rattle.verdict.specs.Checks.{none_over};
 ghost use Rattle.verdict.specs.Governing.{Governs};
 ghost use Rattle.verdict.specs.Answers.{verdict};
 ghost use Rattle.verdict.specs.Rows.{row_lines};
 
-use crate::answer::Verdict;
+use crate::answer::{CombinedCheck, Verdict};
 use crate::checks::first_failed;
 use crate::governing::governing_of;
 use crate::lines::LINES;
@@ -14,10 +14,10 @@ use crate::row::Row;
 use crate::table::none_past;
 
 // Whether no utilisation passes 10,000 and no combined check fails.
-fn is_accepted(rows: &[Row; LINES], failed_check: u8) -> bool
-    ensures { result ≡ (none_over (row_lines rows.now) && nat_eq failed_check 0) }
+fn is_accepted(rows: &[Row; LINES], failed_check: Option<CombinedCheck>) -> bool
+    ensures { result ≡ (none_over (row_lines rows.now) && is_none failed_check) }
 {
-    none_past(rows) && failed_check == 0
+    none_past(rows) && failed_check.is_none()
 }
 
 // Accepted exactly where no utilisation passes 10,000 and every combined check holds, with the governing place and the

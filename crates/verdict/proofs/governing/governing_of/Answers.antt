@@ -1,4 +1,4 @@
-use Rattle.std.proofs.Common.{◌≡◌, ℕ, ◌+◌, List, get_or, sym, ap, ◌∙◌, add-one, arith}
+use Rattle.std.proofs.Common.{◌≡◌, ℕ, ◌+◌, List, get_or, Option, sym, ap, ◌∙◌, add-one, arith}
 use Rattle.failure.specs.Meanings.{Meaning}
 use Rattle.verdict.specs.Governing.{governing, with_places, of_lines}
 use Rattle.verdict.specs.Lines.{nth}
@@ -7,10 +7,10 @@ use Rattle.verdict.specs.declared.answer.Governing.{Governing}
 use Rattle.verdict.proofs.Told.{nth_read}
 use Rattle.verdict.proofs.governing.governing_of.Goals as goal
 
-step : (ms : List Meaning) (m : Meaning) (g h : Governing) (k : ℕ) → nth ms k ≡ m → g ≡ of_lines ms k → h ≡ with_places g (k + 1) m m.places.count → h ≡ of_lines ms (k + 1)
+step : (ms : List Meaning) (m : Meaning) (g h : Option Governing) (k : ℕ) → nth ms k ≡ m → g ≡ of_lines ms k → h ≡ with_places g (k + 1) m m.places.count → h ≡ of_lines ms (k + 1)
 step ms m g h k told is e =
     e
-    ∙ ap (λ (v : Governing). with_places v (k + 1) m m.places.count) is
+    ∙ ap (λ (v : Option Governing). with_places v (k + 1) m m.places.count) is
     ∙ ap (λ (v : Meaning). with_places (of_lines ms k) (k + 1) v v.places.count) (sym told)
     ∙ rw add-one
 
