@@ -8,7 +8,17 @@ use crate::fault::{JobFault, JobRefusal};
 use crate::outcome::Outcome;
 use crate::running::run_job;
 use std::alloc::{AllocError, Global};
-use verdict::answer::Verdict;
+use verdict::answer::{CombinedCheck, Governing, Verdict};
+
+// Printed where no line has a place.
+const NO_PLACE: Governing = Governing {
+    utilisation: 0,
+    line: 0,
+    place: 0,
+};
+
+// Printed where no combined check fails.
+const NO_CHECK: u8 = 0;
 
 fn verdict_text(heap: Global, verdict: Verdict) -> Result<String, AllocError>
     ensures { IfOk result (λ s. string_bytes s ≡ verdict_text verdict) }
@@ -18,10 +28,11 @@ fn verdict_text(heap: Global, verdict: Verdict) -> Result<String, AllocError>
     } else {
         "rejected"
     };
-    let utilisation = verdict.governing.utilisation;
-    let line = verdict.governing.line;
-    let place = verdict.governing.place;
-    let failed = verdict.failed_check;
+    let governing = verdict.governing.unwrap_or(NO_PLACE);
+    let utilisation = governing.utilisation;
+    let line = governing.line;
+    let place = governing.place;
+    let failed = verdict.failed_check.map_or(NO_CHECK, CombinedCheck::number);
     format!(in heap; "{word} {utilisation} {line} {place} {failed}\n")
 }
 

@@ -1,4 +1,4 @@
-use Rattle.std.proofs.Common.{◌≡◌, ℕ, ◌+◌, ◌<◌, false, List, ◌++◌, length, get_or, drop, string_bytes, sym, ap, ◌∙◌}
+use Rattle.std.proofs.Common.{◌≡◌, ℕ, ◌+◌, ◌<◌, false, List, None, ◌++◌, length, get_or, drop, string_bytes, sym, ap, ◌∙◌}
 use Rattle.std.proofs.lemmas.List.{drop_more, drop_all, append_assoc, append-nil}
 use Rattle.std.specs.List.{flat_map}
 use Rattle.job.specs.Printed.{outcome_text}
@@ -15,7 +15,7 @@ text_more os i d xs ys all lt is inv =
     ∙ inv
 
 first : Outcome
-first = Rated (record { accepted = false; governing = record { utilisation = 0; line = 0; place = 0 }; failed_check = 0 })
+first = Rated (record { accepted = false; governing = None; failed_check = None })
 
 pub loop-outcome-preserved : goal.loop-outcome-preserved
 unfolding first
