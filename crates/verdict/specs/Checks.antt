@@ -4,6 +4,7 @@
 --   anchor ms i           the greater of lines 1 and 2 at an anchor, and the greater of lines 10 and 11
 --   concrete ms           the largest of lines 6 and 7, and the largest of lines 12 and 13
 --   check_1 .. check_4    whether each holds
+--   sound check ms        whether the check of that name holds
 --   failed_check ms       the first that fails, or none
 --   line_within m         no utilisation of the line m passes 10,000
 --   none_over ms          none of the thirteen lines passes it
@@ -48,6 +49,12 @@ check_3 ms = all_below most_places (λ i. leb (anchor ms i) 10000)
 
 abbrev pub check_4 : List Meaning → Bool
 check_4 ms = nat_le (concrete ms) 12000
+
+abbrev pub sound : CombinedCheck → List Meaning → Bool
+sound BoltSteel ms = check_1 ms
+sound Channel ms = check_2 ms
+sound Anchor ms = check_3 ms
+sound Concrete ms = check_4 ms
 
 abbrev pub failed_check : List Meaning → Option CombinedCheck
 failed_check ms =

@@ -4,7 +4,6 @@ pub mod Utilisations
 pub mod Figures
 pub mod Rows
 pub mod Checks
-pub mod PlaceChecks
 pub mod Governing
 pub mod Answers
 pub mod Exact

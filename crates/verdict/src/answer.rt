@@ -4,7 +4,7 @@ ghost use Rattle.verdict.specs.Numbers.{number};
 
 // The figures of one line at one place: effect and resistance in mN, for bending in thousandths of a newton-metre; the
 // utilisation in ten-thousandths.
-#[derive(Clone, Copy, Debug, PartialEq, Eq)]
+#[derive(Clone, Copy, Debug, Default, PartialEq, Eq)]
 pub struct Shown {
     pub effect: u64,
     pub resistance: u64,

@@ -1,7 +1,6 @@
 // The combined checks of tension and shear.
 ghost use Rattle.std.specs.Prelude.{◌≡◌};
-ghost use Rattle.verdict.specs.Checks.{bolt_steel, channel, anchor, concrete, check_4, failed_check};
-ghost use Rattle.verdict.specs.PlaceChecks.{sound_at, sound};
+ghost use Rattle.verdict.specs.Checks.{bolt_steel, channel, anchor, concrete, sound, failed_check};
 ghost use Rattle.verdict.specs.Rows.{row_lines};
 
 use crate::answer::CombinedCheck;
@@ -18,14 +17,6 @@ const MOST_SQUARES: u128 = 100_000_000;
 
 // The most of their sum in the concrete.
 const MOST_CONCRETE: u64 = 12_000;
-
-// The checks that are made at each place.
-#[derive(Clone, Copy)]
-pub(crate) enum PlaceCheck {
-    BoltSteel,
-    Channel,
-    Anchor,
-}
 
 // Lines 4 and 8 at a bolt, the sum of the squares.
 fn bolt_steel_sum(rows: &[Row; LINES], place: usize) -> u128
@@ -66,51 +57,33 @@ fn concrete_sum(rows: &[Row; LINES]) -> u64
     u64::from(tension) + u64::from(shear)
 }
 
-// Whether a check holds at a place.
-fn holds_at(rows: &[Row; LINES], check: PlaceCheck, place: usize) -> bool
-    ensures { result ≡ sound_at check (row_lines rows.now) place }
-{
-    match check {
-        PlaceCheck::BoltSteel => bolt_steel_sum(rows, place) <= MOST_SQUARES,
-        PlaceCheck::Channel => channel_sum(rows, place) <= MOST_SUM,
-        PlaceCheck::Anchor => anchor_sum(rows, place) <= MOST_SUM,
-    }
-}
+// The checks by their numbers.
+const CHECKS: [CombinedCheck; 4] = [
+    CombinedCheck::BoltSteel,
+    CombinedCheck::Channel,
+    CombinedCheck::Anchor,
+    CombinedCheck::Concrete,
+];
 
-// Whether a check holds at every place.
-fn holds(rows: &[Row; LINES], check: PlaceCheck) -> bool
-    ensures { result ≡ sound check (row_lines rows.now) }
-{
-    for place in 0..PLACES {
-        if !holds_at(rows, check, place) {
-            return false;
+impl CombinedCheck {
+    // Whether the check holds, at every place where it is made at places.
+    fn holds(self, rows: &[Row; LINES]) -> bool
+        ensures { result ≡ sound self (row_lines rows.now) }
+    {
+        match self {
+            CombinedCheck::BoltSteel => {
+                (0..PLACES).all(|place| bolt_steel_sum(rows, place) <= MOST_SQUARES)
+            }
+            CombinedCheck::Channel => (0..PLACES).all(|place| channel_sum(rows, place) <= MOST_SUM),
+            CombinedCheck::Anchor => (0..PLACES).all(|place| anchor_sum(rows, place) <= MOST_SUM),
+            CombinedCheck::Concrete => concrete_sum(rows) <= MOST_CONCRETE,
         }
     }
-    true
-}
-
-// Whether the check of the concrete holds.
-fn concrete_holds(rows: &[Row; LINES]) -> bool
-    ensures { result ≡ check_4 (row_lines rows.now) }
-{
-    concrete_sum(rows) <= MOST_CONCRETE
 }
 
 // The first check that fails.
 pub(crate) fn first_failed(rows: &[Row; LINES]) -> Option<CombinedCheck>
     ensures { result ≡ failed_check (row_lines rows.now) }
 {
-    if !holds(rows, PlaceCheck::BoltSteel) {
-        return Some(CombinedCheck::BoltSteel);
-    }
-    if !holds(rows, PlaceCheck::Channel) {
-        return Some(CombinedCheck::Channel);
-    }
-    if !holds(rows, PlaceCheck::Anchor) {
-        return Some(CombinedCheck::Anchor);
-    }
-    if !concrete_holds(rows) {
-        return Some(CombinedCheck::Concrete);
-    }
-    None
+    CHECKS.iter().copied().find(|check| !check.holds(rows))
 }

@@ -19,12 +19,12 @@ fn larger_of(first: Option<Governing>, second: Governing) -> Governing
 
 // The governing place with one line more, whose number is `line`.
 fn with_line(before: Option<Governing>, row: &Row, line: usize) -> Option<Governing>
-    ensures { result ≡ with_places before line (row_line row.now) row.now.count }
+    ensures { result ≡ with_places before line (row_line row.now) (row_line row.now).places.count }
 {
     let mut best = before;
-    for i in 0..row.count {
+    for (i, shown) in row.figures.iter().enumerate() {
         let next = Governing {
-            utilisation: row.utilisation(i),
+            utilisation: shown.utilisation,
             line,
             place: i + 1,
         };
@@ -38,8 +38,8 @@ pub(crate) fn governing_of(rows: &[Row; LINES]) -> Option<Governing>
     ensures { result ≡ governing (row_lines rows.now) }
 {
     let mut best = None;
-    for k in 0..LINES {
-        best = with_line(best, &rows[k], k + 1);
+    for (k, row) in rows.iter().enumerate() {
+        best = with_line(best, row, k + 1);
     }
     best
 }

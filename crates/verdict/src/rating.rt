@@ -13,25 +13,6 @@ use crate::sheet::RatingSheet;
 use bolts::refusal::Refusal;
 use loadcase::closed::ClosedCase;
 
-// What the sheet shows.
-fn asked_figures<S: RatingSheet>(
-    sheet: &S,
-    case: &ClosedCase,
-    line: usize,
-    place: usize,
-) -> Result<Shown, Refusal>
-    ensures { result ≡ show_answer (S.RatingSheet.lines sheet.now (closed_case case.now)) line place }
-{
-    sheet.show(case, line, place)
-}
-
-// What the sheet rates.
-fn asked_verdict<S: RatingSheet>(sheet: &S, case: &ClosedCase) -> Result<Verdict, Refusal>
-    ensures { result ≡ rate_answer (S.RatingSheet.lines sheet.now (closed_case case.now)) }
-{
-    sheet.rate(case)
-}
-
 // The figures of a line at a place, both from 1: as the sheet shows them, and faithful to the exact ones.
 pub fn show_place<S: RatingSheet>(
     sheet: &S,
@@ -42,7 +23,7 @@ pub fn show_place<S: RatingSheet>(
     ensures value { result ≡ show_answer (S.RatingSheet.lines sheet.now (closed_case case.now)) line place }
     ensures faithful { IfOk result (Faithful (total_load (nth (S.RatingSheet.lines sheet.now (closed_case case.now)) (line - 1)).direction (closed_case case.now).bolts) (nth (S.RatingSheet.lines sheet.now (closed_case case.now)) (line - 1)) (place - 1)) }
 {
-    asked_figures(sheet, case, line, place)
+    sheet.show(case, line, place)
 }
 
 // The verdict: accepted, and every verification holds exactly; or rejected, and some verification fails once effects
@@ -53,5 +34,5 @@ pub fn rate_case<S: RatingSheet>(sheet: &S, case: &ClosedCase) -> Result<Verdict
     ensures readable { Readable (S.RatingSheet.lines sheet.now (closed_case case.now)) }
     ensures governs { IfOk result (λ v. Governs (S.RatingSheet.lines sheet.now (closed_case case.now)) line_count v.governing) }
 {
-    asked_verdict(sheet, case)
+    sheet.rate(case)
 }

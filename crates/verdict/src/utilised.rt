@@ -20,10 +20,6 @@ pub fn utilisation(effect: u64, resistance: u64) -> u32
         return CAP;
     }
     let product = u128::from(WHOLE) * u128::from(effect);
-    let quotient = (product + u128::from(resistance - 1)) / u128::from(resistance);
-    if quotient < u128::from(CAP) {
-        quotient as u32
-    } else {
-        CAP
-    }
+    let quotient = product.div_ceil(u128::from(resistance));
+    u32::try_from(quotient).unwrap_or(CAP).min(CAP)
 }

@@ -1,24 +1,16 @@
 // The verdict on thirteen rows.
-ghost use Rattle.std.specs.Prelude.{◌≡◌, ◌&&◌, is_none};
+ghost use Rattle.std.specs.Prelude.{◌≡◌};
 ghost use Rattle.verdict.specs.Lines.{line_count};
-ghost use Rattle.verdict.specs.Checks.{none_over};
 ghost use Rattle.verdict.specs.Governing.{Governs};
 ghost use Rattle.verdict.specs.Answers.{verdict};
 ghost use Rattle.verdict.specs.Rows.{row_lines};
 
-use crate::answer::{CombinedCheck, Verdict};
+use crate::answer::Verdict;
 use crate::checks::first_failed;
 use crate::governing::governing_of;
 use crate::lines::LINES;
 use crate::row::Row;
 use crate::table::none_past;
-
-// Whether no utilisation passes 10,000 and no combined check fails.
-fn is_accepted(rows: &[Row; LINES], failed_check: Option<CombinedCheck>) -> bool
-    ensures { result ≡ (none_over (row_lines rows.now) && is_none failed_check) }
-{
-    none_past(rows) && failed_check.is_none()
-}
 
 // Accepted exactly where no utilisation passes 10,000 and every combined check holds, with the governing place and the
 // first check that fails.
@@ -28,7 +20,7 @@ pub fn verdict_of(rows: &[Row; LINES]) -> Verdict
 {
     let failed_check = first_failed(rows);
     Verdict {
-        accepted: is_accepted(rows, failed_check),
+        accepted: none_past(rows) && failed_check.is_none(),
         governing: governing_of(rows),
         failed_check,
     }
