@@ -1,6 +1,6 @@
 // The combined checks of tension and shear.
-ghost use Rattle.std.specs.Prelude.{◌≡◌};
-ghost use Rattle.verdict.specs.Checks.{bolt_steel, channel, anchor, concrete, sound, failed_check};
+ghost use Rattle.std.specs.Prelude.{◌≡◌, nat_le};
+ghost use Rattle.verdict.specs.Checks.{bolt_steel, channel, anchor, check_4, sound, failed_check};
 ghost use Rattle.verdict.specs.Rows.{row_lines};
 
 use crate::answer::CombinedCheck;
@@ -18,43 +18,43 @@ const MOST_SQUARES: u128 = 100_000_000;
 // The most of their sum in the concrete.
 const MOST_CONCRETE: u64 = 12_000;
 
-// Lines 4 and 8 at a bolt, the sum of the squares.
-fn bolt_steel_sum(rows: &[Row; LINES], place: usize) -> u128
-    ensures { result ≡ bolt_steel (row_lines rows.now) place }
+// Of lines 4 and 8 at a bolt, the sum of the squares.
+fn bolt_steel_holds(rows: &[Row; LINES], place: usize) -> bool
+    ensures { result ≡ nat_le (bolt_steel (row_lines rows.now) place) 100000000 }
 {
     let tension = u128::from(used_at(rows, PlaceKind::Bolts, 4, place));
     let shear = u128::from(used_at(rows, PlaceKind::Bolts, 8, place));
-    tension * tension + shear * shear
+    tension * tension + shear * shear <= MOST_SQUARES
 }
 
-// The greater of lines 3 and 5 at a bolt, and line 9.
-fn channel_sum(rows: &[Row; LINES], place: usize) -> u64
-    ensures { result ≡ channel (row_lines rows.now) place }
+// Of the greater of lines 3 and 5 at a bolt, and line 9, the sum.
+fn channel_holds(rows: &[Row; LINES], place: usize) -> bool
+    ensures { result ≡ nat_le (channel (row_lines rows.now) place) 10000 }
 {
     let lip = used_at(rows, PlaceKind::Bolts, 3, place);
     let flexure = used_at(rows, PlaceKind::Bolts, 5, place);
     let shear = used_at(rows, PlaceKind::Bolts, 9, place);
-    u64::from(lip.max(flexure)) + u64::from(shear)
+    u64::from(lip.max(flexure)) + u64::from(shear) <= MOST_SUM
 }
 
-// The greater of lines 1 and 2 at an anchor, and the greater of lines 10 and 11.
-fn anchor_sum(rows: &[Row; LINES], place: usize) -> u64
-    ensures { result ≡ anchor (row_lines rows.now) place }
+// Of the greater of lines 1 and 2 at an anchor, and the greater of lines 10 and 11, the sum.
+fn anchor_holds(rows: &[Row; LINES], place: usize) -> bool
+    ensures { result ≡ nat_le (anchor (row_lines rows.now) place) 10000 }
 {
     let anchor = used_at(rows, PlaceKind::Anchors, 1, place);
     let connection = used_at(rows, PlaceKind::Anchors, 2, place);
     let anchor_shear = used_at(rows, PlaceKind::Anchors, 10, place);
     let connection_shear = used_at(rows, PlaceKind::Anchors, 11, place);
-    u64::from(anchor.max(connection)) + u64::from(anchor_shear.max(connection_shear))
+    u64::from(anchor.max(connection)) + u64::from(anchor_shear.max(connection_shear)) <= MOST_SUM
 }
 
-// The largest of lines 6 and 7, and the largest of lines 12 and 13.
-fn concrete_sum(rows: &[Row; LINES]) -> u64
-    ensures { result ≡ concrete (row_lines rows.now) }
+// Of the largest of lines 6 and 7, and the largest of lines 12 and 13, the sum.
+fn concrete_holds(rows: &[Row; LINES]) -> bool
+    ensures { result ≡ check_4 (row_lines rows.now) }
 {
     let tension = largest_at(rows, 6).max(largest_at(rows, 7));
     let shear = largest_at(rows, 12).max(largest_at(rows, 13));
-    u64::from(tension) + u64::from(shear)
+    u64::from(tension) + u64::from(shear) <= MOST_CONCRETE
 }
 
 // The checks by their numbers.
@@ -71,12 +71,10 @@ impl CombinedCheck {
         ensures { result ≡ sound self (row_lines rows.now) }
     {
         match self {
-            CombinedCheck::BoltSteel => {
-                (0..PLACES).all(|place| bolt_steel_sum(rows, place) <= MOST_SQUARES)
-            }
-            CombinedCheck::Channel => (0..PLACES).all(|place| channel_sum(rows, place) <= MOST_SUM),
-            CombinedCheck::Anchor => (0..PLACES).all(|place| anchor_sum(rows, place) <= MOST_SUM),
-            CombinedCheck::Concrete => concrete_sum(rows) <= MOST_CONCRETE,
+            CombinedCheck::BoltSteel => { (0..PLACES).all(|place| bolt_steel_holds(rows, place)) }
+            CombinedCheck::Channel => (0..PLACES).all(|place| channel_holds(rows, place)),
+            CombinedCheck::Anchor => (0..PLACES).all(|place| anchor_holds(rows, place)),
+            CombinedCheck::Concrete => concrete_holds(rows),
         }
     }
 }

@@ -13,6 +13,18 @@ use crate::sheet::RatingSheet;
 use bolts::refusal::Refusal;
 use loadcase::closed::ClosedCase;
 
+// What the sheet shows; apart, since the checker then proves it without the law that `show_place` adds.
+fn asked_figures<S: RatingSheet>(
+    sheet: &S,
+    case: &ClosedCase,
+    line: usize,
+    place: usize,
+) -> Result<Shown, Refusal>
+    ensures { result ≡ show_answer (S.RatingSheet.lines sheet.now (closed_case case.now)) line place }
+{
+    sheet.show(case, line, place)
+}
+
 // The figures of a line at a place, both from 1: as the sheet shows them, and faithful to the exact ones.
 pub fn show_place<S: RatingSheet>(
     sheet: &S,
@@ -23,7 +35,7 @@ pub fn show_place<S: RatingSheet>(
     ensures value { result ≡ show_answer (S.RatingSheet.lines sheet.now (closed_case case.now)) line place }
     ensures faithful { IfOk result (Faithful (total_load (nth (S.RatingSheet.lines sheet.now (closed_case case.now)) (line - 1)).direction (closed_case case.now).bolts) (nth (S.RatingSheet.lines sheet.now (closed_case case.now)) (line - 1)) (place - 1)) }
 {
-    sheet.show(case, line, place)
+    asked_figures(sheet, case, line, place)
 }
 
 // The verdict: accepted, and every verification holds exactly; or rejected, and some verification fails once effects

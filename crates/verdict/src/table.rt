@@ -1,13 +1,23 @@
 // What thirteen rows tell of their lines. Lines count from 1, places from 0.
-ghost use Rattle.std.specs.Prelude.{◌≡◌, ◌-◌, ◌≤◌, slice_index_or};
+ghost use Rattle.std.specs.Prelude.{◌≡◌, ◌-◌, ◌≤◌, nat_le, slice_index_or};
 ghost use Rattle.verdict.specs.Utilisations.{used, largest};
 ghost use Rattle.verdict.specs.Checks.{line_within, none_over};
 ghost use Rattle.verdict.specs.Rows.{no_row, row_line, row_lines};
 
+use crate::answer::Shown;
 use crate::lines::LINES;
 use crate::row::Row;
 use crate::utilised::WHOLE;
 use failure::places::PlaceKind;
+
+impl Shown {
+    // Whether the utilisation does not pass 10,000.
+    fn is_within(&self) -> bool
+        ensures { result ≡ nat_le self.now.utilisation 10000 }
+    {
+        self.utilisation <= WHOLE
+    }
+}
 
 impl Row {
     // The utilisation at a place of the kind; 0 where the line has no such place.
@@ -32,7 +42,7 @@ impl Row {
     fn is_within(&self) -> bool
         ensures { result ≡ line_within (row_line self.now) }
     {
-        self.figures.iter().all(|shown| shown.utilisation <= WHOLE)
+        self.figures.iter().all(Shown::is_within)
     }
 }
 
@@ -56,5 +66,5 @@ pub(crate) fn largest_at(rows: &[Row; LINES], line: usize) -> u32
 pub(crate) fn none_past(rows: &[Row; LINES]) -> bool
     ensures { result ≡ none_over (row_lines rows.now) }
 {
-    rows.iter().all(|row| row.is_within())
+    rows.iter().all(Row::is_within)
 }

@@ -16,6 +16,6 @@ returns g c =
     let p = c.args.place in
     let law = g.met.S.RatingSheet.lawful sheet case (valid_of c.args.case.now.within) in
     record {
-      value = c.show.ensures;
-      faithful = showed ms l p (Faithful (total_load (line ms l).direction case.bolts) (line ms l) (p - 1)) c.show.result c.show.ensures (faithful case ms l p law);
+      value = c.asked_figures.ensures;
+      faithful = showed ms l p (Faithful (total_load (line ms l).direction case.bolts) (line ms l) (p - 1)) c.asked_figures.result c.asked_figures.ensures (faithful case ms l p law);
     }
