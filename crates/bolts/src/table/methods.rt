@@ -26,12 +26,10 @@ impl BoltTable {
         ensures { Made reach result }
     {
         if reach > MOST_REACH {
-            return Err(Fault::Refused(Refusal::Opening));
+            return Err(Refusal::Opening.into());
         }
-        match Vec::with_capacity(heap, MOST_BOLTS) {
-            Ok(bolts) => Ok(BoltTable { reach, bolts }),
-            Err(_) => Err(Fault::Memory),
-        }
+        let bolts = Vec::with_capacity(heap, MOST_BOLTS)?;
+        Ok(BoltTable { reach, bolts })
     }
 
     // How many bolts there are.

@@ -28,23 +28,19 @@ impl OpenCase {
         ensures { Opened opening result }
     {
         let anchors = opening.anchors;
-        if anchors < LEAST_ANCHORS || anchors > MOST_ANCHORS {
-            return Err(Fault::Refused(Refusal::Opening));
+        if !(LEAST_ANCHORS..=MOST_ANCHORS).contains(&anchors) {
+            return Err(Refusal::Opening.into());
         }
-        let Some(channel) = Channel::new(opening.inertia, opening.spacing) else {
-            return Err(Fault::Refused(Refusal::Opening));
-        };
+        let channel = Channel::new(opening.inertia, opening.spacing).ok_or(Refusal::Opening)?;
         let length = channel.influence_length();
         // the last anchor of a channel in range is within a table's reach, so only memory can be wanting
-        match BoltTable::new(heap, (anchors - 1) * channel.spacing) {
-            Ok(table) => Ok(OpenCase {
-                anchors,
-                channel,
-                length,
-                table,
-            }),
-            Err(_) => Err(Fault::Memory),
-        }
+        let table = BoltTable::new(heap, (anchors - 1) * channel.spacing)?;
+        Ok(OpenCase {
+            anchors,
+            channel,
+            length,
+            table,
+        })
     }
 
     // The numbers that the case was opened with.
