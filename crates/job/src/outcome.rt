@@ -4,7 +4,17 @@ ghost use Rattle.job.specs.Printed.{outcome_words};
 
 use crate::fault::JobRefusal;
 use std::fmt;
-use verdict::answer::Verdict;
+use verdict::answer::{CombinedCheck, Governing, Verdict};
+
+// Printed where no line has a place.
+const NO_PLACE: Governing = Governing {
+    utilisation: 0,
+    line: 0,
+    place: 0,
+};
+
+// Printed where no combined check fails.
+const NO_CHECK: u8 = 0;
 
 #[derive(Clone, Copy, Debug, PartialEq, Eq)]
 pub enum Outcome {
@@ -23,10 +33,11 @@ impl fmt::Display for Outcome {
                 } else {
                     "rejected"
                 };
-                let utilisation = verdict.governing.utilisation;
-                let line = verdict.governing.line;
-                let place = verdict.governing.place;
-                let failed = verdict.failed_check;
+                let governing = verdict.governing.unwrap_or(NO_PLACE);
+                let utilisation = governing.utilisation;
+                let line = governing.line;
+                let place = governing.place;
+                let failed = verdict.failed_check.map_or(NO_CHECK, CombinedCheck::number);
                 write!(f, "{word} {utilisation} {line} {place} {failed}")
             }
             Outcome::Refused(refusal) => write!(f, "{refusal}"),

@@ -1,6 +1,9 @@
 -- A test at each number below a bound.
-use Rattle.std.proofs.Common.{◌≡◌, ℕ, zero, suc, ◌+◌, ◌<◌, Bool, true, false, ◌&&◌, sym, refl, ap, ◌∙◌, inl, inr, add-one, arith}
+use Rattle.std.proofs.Common.{◌≡◌, ℕ, zero, suc, ◌+◌, ◌<◌, Bool, true, false, ◌&&◌, List, [], ◌∷◌, length, get_or, sym, refl, ap, ◌∙◌, inl, inr, add-one, zero-add, arith}
 use borrow.Author.Tests.{clash}
+use Rattle.std.specs.List.{list_all, range_with_len}
+use Rattle.std.proofs.lemmas.List.FromFn.{length-range_with_len, get_or-range_with_len}
+use Rattle.std.proofs.Math.Bool.{and_assoc, and-true}
 use Rattle.std.proofs.lemmas.Bool.{and_parts, and_cases, and_from, and_left, and_right, cases_eq}
 use Rattle.verdict.specs.Checks.{all_below}
 
@@ -18,10 +21,6 @@ all_false (suc n) t e =
       | inr here ↦ (n, omega arith, here)
     ]
 
-pub all_from : (n : ℕ) (t : ℕ → Bool) → ((i : ℕ) → i < n → t i ≡ true) → all_below n t ≡ true
-all_from zero t h = refl
-all_from (suc n) t h = and_from (all_below n t) (t n) (all_from n t (λ i k. h i (omega arith))) (h n (omega arith))
-
 pub none_from : (n : ℕ) (t : ℕ → Bool) (i : ℕ) → i < n → t i ≡ false → all_below n t ≡ false
 none_from zero t i h e = absurd (omega arith)
 none_from (suc n) t i h e =
@@ -38,3 +37,22 @@ pub below_same : (n : ℕ) (t u : ℕ → Bool) → ((i : ℕ) → i < n → t i
 below_same zero t u h = refl
 below_same (suc n) t u h =
     ap (λ (b : Bool). b && t n) (below_same n t u (λ i k. h i (omega arith))) ∙ ap (λ (b : Bool). all_below n u && b) (h n (omega arith))
+
+-- the same tests, with the first apart
+first_apart : (n : ℕ) (t : ℕ → Bool) → all_below (suc n) t ≡ (t 0 && all_below n (λ i. t (suc i)))
+first_apart zero t = sym (and-true (t 0))
+first_apart (suc n) t =
+    ap (λ (b : Bool). b && t (suc n)) (first_apart n t) ∙ and_assoc (t 0) (all_below n (λ i. t (suc i))) (t (suc n))
+
+-- a test of each item of a list is one at each number below its length
+pub all_listed : {X : Type 0} (t : X → Bool) (xs : List X) (d : X) → list_all t xs ≡ all_below (length xs) (λ i. t (get_or xs i d))
+all_listed t [] d = refl
+all_listed t (x ∷ xs) d =
+    ap (λ (b : Bool). t x && b) (all_listed t xs d) ∙ sym (first_apart (length xs) (λ i. t (get_or (x ∷ xs) i d)))
+
+-- and of each number of a range
+pub all_ranged : (n : ℕ) (t : ℕ → Bool) → list_all t (range_with_len 0 n) ≡ all_below n t
+all_ranged n t =
+    all_listed t (range_with_len 0 n) 0
+    ∙ ap (λ (m : ℕ). all_below m (λ i. t (get_or (range_with_len 0 n) i 0))) (length-range_with_len 0 n)
+    ∙ below_same n (λ i. t (get_or (range_with_len 0 n) i 0)) t (λ i h. ap t (get_or-range_with_len 0 n i 0 h ∙ zero-add i))

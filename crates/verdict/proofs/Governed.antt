@@ -1,10 +1,10 @@
 -- The place that the walk finds governs.
-use Rattle.std.proofs.Common.{◌≡◌, ℕ, zero, suc, ◌-◌, ◌<◌, ◌≤◌, true, false, ◌||◌, eqb, ltb, ◌⊎◌, List, refl, ap, ◌∙◌, subst, inl, inr, arith}
-use Rattle.std.proofs.lemmas.Bool.{cases_eq, cases_lt, cond_both, or_cases, or_parts, eqb-true, eqb-false, ltb-true, ltb-false}
+use Rattle.std.proofs.Common.{◌≡◌, ℕ, zero, suc, ◌-◌, ◌<◌, ◌≤◌, ltb, ◌⊎◌, List, Some, None, Option, refl, ap, ◌∙◌, subst, inl, inr, arith}
+use Rattle.std.proofs.lemmas.Bool.{cases_eq, cases_lt, cond_both, ltb-true, ltb-false}
 use Rattle.failure.specs.Meanings.{Meaning}
 use Rattle.verdict.specs.Lines.{line_count, nth, line}
 use Rattle.verdict.specs.Utilisations.{utilisation}
-use Rattle.verdict.specs.Governing.{Before, Governs, nothing_yet, larger, with_places, of_lines, governing}
+use Rattle.verdict.specs.Governing.{Before, Governs, larger, with_places, of_lines, governing}
 use Rattle.verdict.specs.declared.answer.Governing.{Governing}
 
 -- the walk has passed the first n lines, and p places of the next
@@ -27,15 +27,15 @@ module _ (ms : List Meaning) where
     none_larger : (j i : ℕ) → Seen n p j i → There j i → at j i ≤ g.utilisation
     earlier_less : (j i : ℕ) → Before j i g.line g.place → There j i → at j i < g.utilisation
 
-  record NoneSoFar (n p : ℕ) (g : Governing) : Type 0 where
-    nothing : g ≡ nothing_yet
-    none : (j i : ℕ) → Seen n p j i → There j i → ⊥
+  abbrev NoneSoFar : ℕ → ℕ → Type 0
+  NoneSoFar n p = (j i : ℕ) → Seen n p j i → There j i → ⊥
 
-  abbrev SoFar : ℕ → ℕ → Governing → Type 0
-  SoFar n p g = NoneSoFar n p g ⊎ FoundSoFar n p g
+  abbrev SoFar : ℕ → ℕ → Option Governing → Type 0
+  SoFar n p None = NoneSoFar n p
+  SoFar n p (Some g) = FoundSoFar n p g
 
   -- one place more
-  module _ (n p : ℕ) (here : There n p) (g : Governing) where
+  module _ (n p : ℕ) (here : There n p) where
     abbrev new : Governing
     new = record { utilisation = at n p; line = suc n; place = suc p }
 
@@ -74,8 +74,8 @@ module _ (ms : List Meaning) where
           earlier_less = λ j i b t. less j i (before_new j i b) t;
         }
 
-    keep : at n p ≤ g.utilisation → FoundSoFar n p g → FoundSoFar n (suc p) g
-    keep most f =
+    keep : (g : Governing) → at n p ≤ g.utilisation → FoundSoFar n p g → FoundSoFar n (suc p) g
+    keep g most f =
         record {
           line_low = f.line_low;
           place_low = f.place_low;
@@ -86,30 +86,15 @@ module _ (ms : List Meaning) where
           earlier_less = f.earlier_less;
         }
 
-    taken : (eqb g.line 0 || ltb g.utilisation (at n p)) ≡ true → SoFar n p g → SoFar n (suc p) new
-    taken e (inl none) = inr (take (λ j i s t. absurd (none.none j i s t)))
-    taken e (inr f) =
-        let less : g.utilisation < at n p =
-        elim (or_cases (eqb g.line 0) (ltb g.utilisation (at n p)) e) [
-          | inl no_line ↦ absurd (omega (arith, eqb-true g.line 0 no_line, f.line_low))
-          | inr more ↦ ltb-true g.utilisation (at n p) more
-        ] in
-        inr (take (λ j i s t. omega (arith, f.none_larger j i s t)))
-
-    kept : (eqb g.line 0 || ltb g.utilisation (at n p)) ≡ false → SoFar n p g → SoFar n (suc p) g
-    kept e so =
-        let both = or_parts (eqb g.line 0) (ltb g.utilisation (at n p)) e in
-        elim so [
-          | inl none ↦ absurd (eqb-false g.line 0 both.0 (ap (λ v. v.line) none.nothing))
-          | inr f ↦ inr (keep (ltb-false g.utilisation (at n p) both.1) f)
-        ]
-
-    one_more : SoFar n p g → SoFar n (suc p) (larger g new)
-    one_more so =
-        cond_both (eqb g.line 0 || ltb g.utilisation (at n p)) new g (SoFar n (suc p)) (λ e. taken e so) (λ e. kept e so)
+    one_more : (g : Option Governing) → SoFar n p g → FoundSoFar n (suc p) (larger g new)
+    one_more None none = take (λ j i s t. absurd (none j i s t))
+    one_more (Some g) f =
+        cond_both (ltb g.utilisation (at n p)) new g (FoundSoFar n (suc p))
+        (λ e. let less = ltb-true g.utilisation (at n p) e in take (λ j i s t. omega (arith, f.none_larger j i s t)))
+        (λ e. keep g (ltb-false g.utilisation (at n p) e) f)
 
   -- the places of a line, and on to the next
-  places : (n p : ℕ) → p ≤ (nth ms n).places.count → (g : Governing) → SoFar n 0 g → SoFar n p (with_places g (suc n) (nth ms n) p)
+  places : (n p : ℕ) → p ≤ (nth ms n).places.count → (g : Option Governing) → SoFar n 0 g → SoFar n p (with_places g (suc n) (nth ms n) p)
   places n zero inside g so = so
   places n (suc p) inside g so =
       one_more n p (omega arith) (with_places g (suc n) (nth ms n) p) (places n p (omega arith) g so)
@@ -124,11 +109,10 @@ module _ (ms : List Meaning) where
     part p j i (inl line) = inl (omega arith)
     part p j i (inr (line, place)) = inl (omega arith)
 
-    next_line : (g : Governing) → SoFar n (nth ms n).places.count g → SoFar (suc n) 0 g
-    next_line g (inl none) = inl (record { nothing = none.nothing; none = λ j i s t. none.none j i (whole j i s t) t })
-    next_line g (inr f) =
-        inr
-        (record {
+    next_line : (g : Option Governing) → SoFar n (nth ms n).places.count g → SoFar (suc n) 0 g
+    next_line None none = λ j i s t. none j i (whole j i s t) t
+    next_line (Some g) f =
+        record {
           line_low = f.line_low;
           place_low = f.place_low;
           seen = part _ _ _ f.seen;
@@ -136,25 +120,18 @@ module _ (ms : List Meaning) where
           has_it = f.has_it;
           none_larger = λ j i s t. f.none_larger j i (whole j i s t) t;
           earlier_less = f.earlier_less;
-        })
+        }
 
   lines : (n : ℕ) → SoFar n 0 (of_lines ms n)
-  lines zero = inl (record { nothing = refl; none = λ j i s t. elim s [ inl line ↦ omega arith | inr both ↦ omega arith ] })
+  lines zero = λ j i s t. elim s [ inl line ↦ omega arith | inr both ↦ omega arith ]
   lines (suc n) = next_line n _ (places n (nth ms n).places.count (omega arith) (of_lines ms n) (lines n))
 
-  done : (n : ℕ) (g : Governing) → SoFar n 0 g → Governs ms n g
-  done n g (inl none) =
-      inl
-      (record {
-        no_utilisation = ap (λ v. v.utilisation) none.nothing;
-        no_line = ap (λ v. v.line) none.nothing;
-        no_place = ap (λ v. v.place) none.nothing;
-        none = λ j h. elim (cases_lt 0 (nth ms j).places.count) [ inl some ↦ absurd (none.none j 0 (inl h) some) | inr fine ↦ omega arith ];
-      })
-  done n g (inr f) =
+  done : (n : ℕ) (g : Option Governing) → SoFar n 0 g → Governs ms n g
+  done n None none =
+      record { none = λ j h. elim (cases_lt 0 (nth ms j).places.count) [ inl some ↦ absurd (none j 0 (inl h) some) | inr fine ↦ omega arith ] }
+  done n (Some g) f =
       let high : g.line ≤ n = elim f.seen [ inl line ↦ omega (arith, f.line_low) | inr both ↦ absurd (omega arith) ] in
-      inr
-      (record {
+      record {
         line_low = f.line_low;
         line_high = high;
         place_low = f.place_low;
@@ -162,7 +139,7 @@ module _ (ms : List Meaning) where
         has_it = f.has_it;
         none_larger = λ j i h t. f.none_larger j i (inl h) t;
         earlier_less = f.earlier_less;
-      })
+      }
 
 pub governed : (ms : List Meaning) → Governs ms line_count (governing ms)
 unfolding governing

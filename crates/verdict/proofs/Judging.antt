@@ -1,6 +1,7 @@
 -- From the utilisations of the lines to the exact verifications.
-use Rattle.std.proofs.Common.{◌≡◌, ℕ, ◌+◌, ◌-◌, ◌*◌, ◌<◌, ◌≤◌, max, Bool, true, false, cond, eqb, leb, List, refl, inl, inr, mul-le-mul_right, mul-le-mul, mul-pos, le_of_mul-le-mul_right, arith}
-use Rattle.std.proofs.lemmas.Bool.{cases_lt, leb-true, leb-false, and_parts, and_cases, eqb-true, eqb-false}
+use Rattle.std.proofs.Common.{◌≡◌, ℕ, ◌+◌, ◌-◌, ◌*◌, ◌<◌, ◌≤◌, max, Bool, true, false, cond, leb, List, Some, None, Option, is_none, sym, refl, inl, inr, mul-le-mul_right, mul-le-mul, mul-pos, le_of_mul-le-mul_right, arith}
+use Rattle.std.proofs.lemmas.Bool.{cases_lt, leb-true, leb-false, and_parts, and_cases}
+use borrow.Author.Tests.{clash}
 use Rattle.fractions.specs.Fractions.{Fraction, whole}
 use Rattle.forces.specs.Cases.{Case}
 use Rattle.failure.specs.Meanings.{Meaning}
@@ -12,6 +13,8 @@ use Rattle.verdict.specs.Checks as checks
 use Rattle.verdict.specs.Checks.{all_below, check_1, check_2, check_3, check_4, failed_check, none_over}
 use Rattle.verdict.specs.Answers.{all_accurate, verdict}
 use Rattle.verdict.specs.Exact.{Choice, Within, SumAtMost, SquaresAtMostOne, Verification, single, bolt_steel, channel, anchor, concrete, Uses, UsesAll, Mild, Harsh, worsened, Holds, Fails, Judged, AllLawful, AllAccurate}
+use Rattle.verdict.specs.declared.answer.CombinedCheck.{CombinedCheck}
+use Rattle.verdict.specs.declared.answer.CombinedCheck.TheVariants.{BoltSteel, Channel, Anchor, Concrete}
 use Rattle.verdict.proofs.Below.{all_true, all_false}
 use Rattle.verdict.proofs.Places.{used_here, used_either, largest_most, largest_either}
 use Rattle.verdict.proofs.Shares.{within, share, slack, Bent}
@@ -48,15 +51,15 @@ square_add v u x y a b sum =
     square_up v u (x.above * y.below) (y.above * x.below) n pos
     (omega (arith, mul-le-mul_right y.below a)) (omega (arith, mul-le-mul_right x.below b)) k
 
--- the number of the first no
-abbrev number : (a b d e : Bool) → ℕ
-number a b d e = cond a (cond b (cond d (cond e 0 4) 3) 2) 1
+-- the check of the first no
+abbrev first : (a b d e : Bool) → Option CombinedCheck
+first a b d e = cond a (cond b (cond d (cond e None (Some Concrete)) (Some Anchor)) (Some Channel)) (Some BoltSteel)
 
-passed : (a b d e : Bool) → number a b d e ≡ 0 → (a ≡ true) × (b ≡ true) × (d ≡ true) × (e ≡ true)
-passed false b d e h = absurd (omega arith)
-passed true false d e h = absurd (omega arith)
-passed true true false e h = absurd (omega arith)
-passed true true true false h = absurd (omega arith)
+passed : (a b d e : Bool) → is_none (first a b d e) ≡ true → (a ≡ true) × (b ≡ true) × (d ≡ true) × (e ≡ true)
+passed false b d e h = absurd (clash h)
+passed true false d e h = absurd (clash h)
+passed true true false e h = absurd (clash h)
+passed true true true false h = absurd (clash h)
 passed true true true true h = (refl, refl, refl, refl)
 
 module _ (c : Case) (ms : List Meaning) (law : AllLawful c ms) where
@@ -241,25 +244,25 @@ module _ (c : Case) (ms : List Meaning) (law : AllLawful c ms) where
         )
 
     -- the first check that fails, if one does
-    failed_fails : (a b d e : Bool) → check_1 ms ≡ a → check_2 ms ≡ b → check_3 ms ≡ d → check_4 ms ≡ e → (number a b d e ≡ 0 → ⊥) → (v : Verification) × Fails c ms v
+    failed_fails : (a b d e : Bool) → check_1 ms ≡ a → check_2 ms ≡ b → check_3 ms ≡ d → check_4 ms ≡ e → is_none (first a b d e) ≡ false → (v : Verification) × Fails c ms v
     failed_fails false b d e p q r s is = bolt_steel_fails p
     failed_fails true false d e p q r s is = channel_fails q
     failed_fails true true false e p q r s is = anchor_fails r
     failed_fails true true true false p q r s is = concrete_fails s
-    failed_fails true true true true p q r s is = absurd (is refl)
+    failed_fails true true true true p q r s is = absurd (clash (sym is))
 
     -- the verdict stands against the exact figures
     pub judges_listed : Judged c ms (verdict ms).accepted
     judges_listed =
         record {
           accepted_holds = λ accepted.
-              let both = and_parts (none_over ms) (eqb (failed_check ms) 0) accepted in
-              let all = passed (check_1 ms) (check_2 ms) (check_3 ms) (check_4 ms) (eqb-true (failed_check ms) 0 both.1) in
+              let both = and_parts (none_over ms) (is_none (failed_check ms)) accepted in
+              let all = passed (check_1 ms) (check_2 ms) (check_3 ms) (check_4 ms) both.1 in
               all_hold both.0 all.0 all.1 all.2 all.3;
           rejected_fails = λ rejected.
-              elim (and_cases (none_over ms) (eqb (failed_check ms) 0) rejected) [
+              elim (and_cases (none_over ms) (is_none (failed_check ms)) rejected) [
                 | inl past ↦ over_fails past
-                | inr failed ↦ failed_fails (check_1 ms) (check_2 ms) (check_3 ms) (check_4 ms) refl refl refl refl (eqb-false (failed_check ms) 0 failed)
+                | inr failed ↦ failed_fails (check_1 ms) (check_2 ms) (check_3 ms) (check_4 ms) refl refl refl refl failed
               ];
         }
 

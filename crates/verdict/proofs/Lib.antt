@@ -2,9 +2,9 @@ pub mod Below
 pub mod Places
 pub mod Shares
 pub mod Judging
-mod Filled
-mod Sound
 mod Told
+mod Listed
+mod Ceilings
 pub mod Governed
 pub mod SameLines
 pub mod Answered

@@ -1,5 +1,5 @@
 -- Lines with the same places and the same utilisations have the same verdict.
-use Rattle.std.proofs.Common.{◌≡◌, ℕ, zero, suc, ◌-◌, ◌<◌, ◌≤◌, max, Bool, true, false, cond, ◌&&◌, ltb, leb, List, get_or, sym, refl, ap, ◌∙◌, inl, inr, arith}
+use Rattle.std.proofs.Common.{◌≡◌, ℕ, zero, suc, ◌-◌, ◌<◌, ◌≤◌, max, Bool, true, false, cond, ◌&&◌, ltb, leb, List, get_or, Some, Option, sym, refl, ap, ◌∙◌, inl, inr, arith}
 use Rattle.std.proofs.lemmas.Bool.{cases_lt, lt-ltb, le-ltb, cond-true}
 use Rattle.failure.specs.Meanings.{Meaning}
 use Rattle.failure.specs.declared.places.PlaceKind.{PlaceKind}
@@ -58,13 +58,13 @@ module _ (m n : Meaning) (same : Same m n) where
       below_same m.places.count (λ i. leb (utilisation m i) 10000) (λ i. leb (utilisation n i) 10000) (λ i h. ap (λ (v : ℕ). leb v 10000) (same.each i h))
       ∙ ap (λ (p : ℕ). all_below p (λ i. leb (utilisation n i) 10000)) same.count
 
-  places_same : (g : Governing) (l p : ℕ) → p ≤ m.places.count → with_places g l m p ≡ with_places g l n p
+  places_same : (g : Option Governing) (l p : ℕ) → p ≤ m.places.count → with_places g l m p ≡ with_places g l n p
   places_same g l zero h = refl
   places_same g l (suc p) h =
-      ap (λ (v : Governing). larger v (record { utilisation = utilisation m p; line = l; place = suc p })) (places_same g l p (omega arith))
-      ∙ ap (λ (v : ℕ). larger (with_places g l n p) (record { utilisation = v; line = l; place = suc p })) (same.each p (omega arith))
+      ap (λ (v : Option Governing). Some (larger v (record { utilisation = utilisation m p; line = l; place = suc p }))) (places_same g l p (omega arith))
+      ∙ ap (λ (v : ℕ). Some (larger (with_places g l n p) (record { utilisation = v; line = l; place = suc p }))) (same.each p (omega arith))
 
-  all_places_same : (g : Governing) (l : ℕ) → with_places g l m m.places.count ≡ with_places g l n n.places.count
+  all_places_same : (g : Option Governing) (l : ℕ) → with_places g l m m.places.count ≡ with_places g l n n.places.count
   all_places_same g l = places_same g l m.places.count (omega arith) ∙ ap (with_places g l n) same.count
 
 module _ (ms ns : List Meaning) (same : (k : ℕ) → k < line_count → Same (nth ms k) (nth ns k)) where
@@ -103,7 +103,7 @@ module _ (ms ns : List Meaning) (same : (k : ℕ) → k < line_count → Same (n
   lines_same : (n : ℕ) → n ≤ line_count → of_lines ms n ≡ of_lines ns n
   lines_same zero h = refl
   lines_same (suc n) h =
-      ap (λ (g : Governing). with_places g (suc n) (nth ms n) (nth ms n).places.count) (lines_same n (omega arith))
+      ap (λ (g : Option Governing). with_places g (suc n) (nth ms n) (nth ms n).places.count) (lines_same n (omega arith))
       ∙ all_places_same (nth ms n) (nth ns n) (same n (omega arith)) (of_lines ns n) (suc n)
 
   governing_same : governing ms ≡ governing ns

@@ -1,6 +1,5 @@
 -- The lines that rows tell.
-use Rattle.std.proofs.Common.{◌≡◌, ℕ, zero, suc, ◌+◌, ◌<◌, List, length, get_or, ap, ◌∙◌, arith}
-use Rattle.std.proofs.lemmas.List.{get_or_default}
+use Rattle.std.proofs.Common.{◌≡◌, ℕ, zero, suc, ◌+◌, ◌<◌, List, get_or, ap, ◌∙◌, arith}
 use Rattle.verdict.specs.Lines.{line_count, nth}
 use Rattle.verdict.specs.Rows.{no_row, row_line, lines_from, row_lines}
 use Rattle.verdict.specs.declared.row.Row.{Row}
@@ -16,7 +15,3 @@ nth_from rs j (suc n) (suc k) h =
 pub nth_told : (rs : List Row) (k : ℕ) → k < line_count → nth (row_lines rs) k ≡ row_line (get_or rs k no_row)
 nth_told rs k h =
     let e : 0 + k ≡ k = omega arith in nth_from rs 0 line_count k h ∙ ap (λ (v : ℕ). row_line (get_or rs v no_row)) e
-
--- of a row that was read, whatever stands past the end
-pub nth_read : (rs : List Row) (k : ℕ) (d : Row) → length rs ≡ line_count → k < line_count → nth (row_lines rs) k ≡ row_line (get_or rs k d)
-nth_read rs k d long h = nth_told rs k h ∙ ap row_line (get_or_default rs k no_row d (omega arith))

@@ -4,7 +4,7 @@
 --   shown ms l p          its effect, resistance and utilisation
 --   verdict ms            accepted exactly where no utilisation passes 10,000 and every combined check holds
 --   show_answer ms l p, rate_answer ms   the figures, or the first question answered no
-use Rattle.std.specs.Prelude.{ℕ, ◌-◌, Bool, ◌&&◌, List, [], ◌∷◌, Ok, Err, Result, ◌==◌, nat_le}
+use Rattle.std.specs.Prelude.{ℕ, ◌-◌, Bool, ◌&&◌, List, [], ◌∷◌, Ok, Err, Result, is_none, nat_le}
 use Rattle.bolts.specs.Asked.{first_no}
 use Rattle.bolts.specs.declared.refusal.Refusal.{Refusal}
 use Rattle.bolts.specs.declared.refusal.Refusal.TheVariants.{NoPlace, Allowance}
@@ -34,7 +34,7 @@ shown ms l p = record {
 
 abbrev pub verdict : List Meaning → Verdict
 verdict ms = record {
-  accepted = none_over ms && (failed_check ms == 0);
+  accepted = none_over ms && is_none (failed_check ms);
   governing = governing ms;
   failed_check = failed_check ms;
 }

@@ -4,12 +4,15 @@
 --   anchor ms i           the greater of lines 1 and 2 at an anchor, and the greater of lines 10 and 11
 --   concrete ms           the largest of lines 6 and 7, and the largest of lines 12 and 13
 --   check_1 .. check_4    whether each holds
---   failed_check ms       the number of the first that fails, or 0
+--   sound check ms        whether the check of that name holds
+--   failed_check ms       the first that fails, or none
 --   line_within m         no utilisation of the line m passes 10,000
 --   none_over ms          none of the thirteen lines passes it
-use Rattle.std.specs.Prelude.{ℕ, zero, suc, ◌+◌, ◌*◌, max, Bool, true, cond, ◌&&◌, leb, List, nat_le}
+use Rattle.std.specs.Prelude.{ℕ, zero, suc, ◌+◌, ◌*◌, max, Bool, true, cond, ◌&&◌, leb, List, Some, None, Option, nat_le}
 use Rattle.failure.specs.Meanings.{Meaning}
 use Rattle.failure.specs.declared.places.PlaceKind.TheVariants.{Bolts, Anchors}
+use Rattle.verdict.specs.declared.answer.CombinedCheck.{CombinedCheck}
+use Rattle.verdict.specs.declared.answer.CombinedCheck.TheVariants.{BoltSteel, Channel, Anchor, Concrete}
 use Rattle.verdict.specs.Lines.{line_count, most_places, nth, line}
 use Rattle.verdict.specs.Utilisations.{utilisation, used, largest}
 
@@ -47,8 +50,15 @@ check_3 ms = all_below most_places (λ i. leb (anchor ms i) 10000)
 abbrev pub check_4 : List Meaning → Bool
 check_4 ms = nat_le (concrete ms) 12000
 
-abbrev pub failed_check : List Meaning → ℕ
-failed_check ms = cond (check_1 ms) (cond (check_2 ms) (cond (check_3 ms) (cond (check_4 ms) 0 4) 3) 2) 1
+abbrev pub sound : CombinedCheck → List Meaning → Bool
+sound BoltSteel ms = check_1 ms
+sound Channel ms = check_2 ms
+sound Anchor ms = check_3 ms
+sound Concrete ms = check_4 ms
+
+abbrev pub failed_check : List Meaning → Option CombinedCheck
+failed_check ms =
+    cond (check_1 ms) (cond (check_2 ms) (cond (check_3 ms) (cond (check_4 ms) None (Some Concrete)) (Some Anchor)) (Some Channel)) (Some BoltSteel)
 
 abbrev pub line_within : Meaning → Bool
 line_within m = all_below m.places.count (λ i. leb (utilisation m i) 10000)

@@ -1,9 +1,9 @@
+pub mod Numbers
 pub mod Lines
 pub mod Utilisations
 pub mod Figures
 pub mod Rows
 pub mod Checks
-pub mod PlaceChecks
 pub mod Governing
 pub mod Answers
 pub mod Exact

@@ -1,9 +1,9 @@
 // The combined checks of tension and shear.
-ghost use Rattle.std.specs.Prelude.{◌≡◌};
-ghost use Rattle.verdict.specs.Checks.{bolt_steel, channel, anchor, concrete, check_4, failed_check};
-ghost use Rattle.verdict.specs.PlaceChecks.{sound_at, sound};
+ghost use Rattle.std.specs.Prelude.{◌≡◌, nat_le};
+ghost use Rattle.verdict.specs.Checks.{bolt_steel, channel, anchor, check_4, sound, failed_check};
 ghost use Rattle.verdict.specs.Rows.{row_lines};
 
+use crate::answer::CombinedCheck;
 use crate::lines::{LINES, PLACES};
 use crate::row::Row;
 use crate::table::{largest_at, used_at};
@@ -18,98 +18,70 @@ const MOST_SQUARES: u128 = 100_000_000;
 // The most of their sum in the concrete.
 const MOST_CONCRETE: u64 = 12_000;
 
-// The checks that are made at each place.
-#[derive(Clone, Copy)]
-pub(crate) enum PlaceCheck {
-    BoltSteel,
-    Channel,
-    Anchor,
-}
-
-// Lines 4 and 8 at a bolt, the sum of the squares.
-fn bolt_steel_sum(rows: &[Row; LINES], place: usize) -> u128
-    ensures { result ≡ bolt_steel (row_lines rows.now) place }
+// Of lines 4 and 8 at a bolt, the sum of the squares.
+fn bolt_steel_holds(rows: &[Row; LINES], place: usize) -> bool
+    ensures { result ≡ nat_le (bolt_steel (row_lines rows.now) place) 100000000 }
 {
     let tension = u128::from(used_at(rows, PlaceKind::Bolts, 4, place));
     let shear = u128::from(used_at(rows, PlaceKind::Bolts, 8, place));
-    tension * tension + shear * shear
+    tension * tension + shear * shear <= MOST_SQUARES
 }
 
-// The greater of lines 3 and 5 at a bolt, and line 9.
-fn channel_sum(rows: &[Row; LINES], place: usize) -> u64
-    ensures { result ≡ channel (row_lines rows.now) place }
+// Of the greater of lines 3 and 5 at a bolt, and line 9, the sum.
+fn channel_holds(rows: &[Row; LINES], place: usize) -> bool
+    ensures { result ≡ nat_le (channel (row_lines rows.now) place) 10000 }
 {
     let lip = used_at(rows, PlaceKind::Bolts, 3, place);
     let flexure = used_at(rows, PlaceKind::Bolts, 5, place);
     let shear = used_at(rows, PlaceKind::Bolts, 9, place);
-    u64::from(lip.max(flexure)) + u64::from(shear)
+    u64::from(lip.max(flexure)) + u64::from(shear) <= MOST_SUM
 }
 
-// The greater of lines 1 and 2 at an anchor, and the greater of lines 10 and 11.
-fn anchor_sum(rows: &[Row; LINES], place: usize) -> u64
-    ensures { result ≡ anchor (row_lines rows.now) place }
+// Of the greater of lines 1 and 2 at an anchor, and the greater of lines 10 and 11, the sum.
+fn anchor_holds(rows: &[Row; LINES], place: usize) -> bool
+    ensures { result ≡ nat_le (anchor (row_lines rows.now) place) 10000 }
 {
     let anchor = used_at(rows, PlaceKind::Anchors, 1, place);
     let connection = used_at(rows, PlaceKind::Anchors, 2, place);
     let anchor_shear = used_at(rows, PlaceKind::Anchors, 10, place);
     let connection_shear = used_at(rows, PlaceKind::Anchors, 11, place);
-    u64::from(anchor.max(connection)) + u64::from(anchor_shear.max(connection_shear))
+    u64::from(anchor.max(connection)) + u64::from(anchor_shear.max(connection_shear)) <= MOST_SUM
 }
 
-// The largest of lines 6 and 7, and the largest of lines 12 and 13.
-fn concrete_sum(rows: &[Row; LINES]) -> u64
-    ensures { result ≡ concrete (row_lines rows.now) }
-{
-    let tension = largest_at(rows, 6).max(largest_at(rows, 7));
-    let shear = largest_at(rows, 12).max(largest_at(rows, 13));
-    u64::from(tension) + u64::from(shear)
-}
-
-// Whether a check holds at a place.
-fn holds_at(rows: &[Row; LINES], check: PlaceCheck, place: usize) -> bool
-    ensures { result ≡ sound_at check (row_lines rows.now) place }
-{
-    match check {
-        PlaceCheck::BoltSteel => bolt_steel_sum(rows, place) <= MOST_SQUARES,
-        PlaceCheck::Channel => channel_sum(rows, place) <= MOST_SUM,
-        PlaceCheck::Anchor => anchor_sum(rows, place) <= MOST_SUM,
-    }
-}
-
-// Whether a check holds at every place.
-fn holds(rows: &[Row; LINES], check: PlaceCheck) -> bool
-    ensures { result ≡ sound check (row_lines rows.now) }
-{
-    for place in 0..PLACES {
-        if !holds_at(rows, check, place) {
-            return false;
-        }
-    }
-    true
-}
-
-// Whether the check of the concrete holds.
+// Of the largest of lines 6 and 7, and the largest of lines 12 and 13, the sum.
 fn concrete_holds(rows: &[Row; LINES]) -> bool
     ensures { result ≡ check_4 (row_lines rows.now) }
 {
-    concrete_sum(rows) <= MOST_CONCRETE
+    let tension = largest_at(rows, 6).max(largest_at(rows, 7));
+    let shear = largest_at(rows, 12).max(largest_at(rows, 13));
+    u64::from(tension) + u64::from(shear) <= MOST_CONCRETE
 }
 
-// The number of the first check that fails, or 0.
-pub(crate) fn first_failed(rows: &[Row; LINES]) -> u8
+// The checks by their numbers.
+const CHECKS: [CombinedCheck; 4] = [
+    CombinedCheck::BoltSteel,
+    CombinedCheck::Channel,
+    CombinedCheck::Anchor,
+    CombinedCheck::Concrete,
+];
+
+impl CombinedCheck {
+    // Whether the check holds, at every place where it is made at places.
+    fn holds(self, rows: &[Row; LINES]) -> bool
+        ensures { result ≡ sound self (row_lines rows.now) }
+    {
+        match self {
+            CombinedCheck::BoltSteel => { (0..PLACES).all(|place| bolt_steel_holds(rows, place)) }
+            CombinedCheck::Channel => (0..PLACES).all(|place| channel_holds(rows, place)),
+            CombinedCheck::Anchor => (0..PLACES).all(|place| anchor_holds(rows, place)),
+            CombinedCheck::Concrete => concrete_holds(rows),
+        }
+    }
+}
+
+// The first check that fails.
+pub(crate) fn first_failed(rows: &[Row; LINES]) -> Option<CombinedCheck>
     ensures { result ≡ failed_check (row_lines rows.now) }
 {
-    if !holds(rows, PlaceCheck::BoltSteel) {
-        return 1;
-    }
-    if !holds(rows, PlaceCheck::Channel) {
-        return 2;
-    }
-    if !holds(rows, PlaceCheck::Anchor) {
-        return 3;
-    }
-    if !concrete_holds(rows) {
-        return 4;
-    }
-    0
+    CHECKS.iter().copied().find(|check| !check.holds(rows))
 }

@@ -7,44 +7,39 @@ use crate::answer::Governing;
 use crate::lines::LINES;
 use crate::row::Row;
 
-// The second where it is larger, or where the first is of no place; else the first.
-fn larger_of(first: Governing, second: Governing) -> Governing
+// The second where it is larger, or where there is no first; else the first.
+fn larger_of(first: Option<Governing>, second: Governing) -> Governing
     ensures { result ≡ larger first second }
 {
-    if first.line == 0 || first.utilisation < second.utilisation {
-        second
-    } else {
-        first
+    match first {
+        Some(first) if second.utilisation <= first.utilisation => first,
+        _ => second,
     }
 }
 
 // The governing place with one line more, whose number is `line`.
-fn with_line(before: Governing, row: &Row, line: usize) -> Governing
-    ensures { result ≡ with_places before line (row_line row.now) row.now.count }
+fn with_line(before: Option<Governing>, row: &Row, line: usize) -> Option<Governing>
+    ensures { result ≡ with_places before line (row_line row.now) (row_line row.now).places.count }
 {
     let mut best = before;
-    for i in 0..row.count {
+    for (i, shown) in row.figures.iter().enumerate() {
         let next = Governing {
-            utilisation: row.utilisation(i),
+            utilisation: shown.utilisation,
             line,
             place: i + 1,
         };
-        best = larger_of(best, next);
+        best = Some(larger_of(best, next));
     }
     best
 }
 
 // The governing place of thirteen lines.
-pub(crate) fn governing_of(rows: &[Row; LINES]) -> Governing
+pub(crate) fn governing_of(rows: &[Row; LINES]) -> Option<Governing>
     ensures { result ≡ governing (row_lines rows.now) }
 {
-    let mut best = Governing {
-        utilisation: 0,
-        line: 0,
-        place: 0,
-    };
-    for k in 0..LINES {
-        best = with_line(best, &rows[k], k + 1);
+    let mut best = None;
+    for (k, row) in rows.iter().enumerate() {
+        best = with_line(best, row, k + 1);
     }
     best
 }

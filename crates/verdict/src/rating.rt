@@ -13,7 +13,7 @@ use crate::sheet::RatingSheet;
 use bolts::refusal::Refusal;
 use loadcase::closed::ClosedCase;
 
-// What the sheet shows.
+// What the sheet shows; apart, since the checker then proves it without the law that `show_place` adds.
 fn asked_figures<S: RatingSheet>(
     sheet: &S,
     case: &ClosedCase,
@@ -23,13 +23,6 @@ fn asked_figures<S: RatingSheet>(
     ensures { result ≡ show_answer (S.RatingSheet.lines sheet.now (closed_case case.now)) line place }
 {
     sheet.show(case, line, place)
-}
-
-// What the sheet rates.
-fn asked_verdict<S: RatingSheet>(sheet: &S, case: &ClosedCase) -> Result<Verdict, Refusal>
-    ensures { result ≡ rate_answer (S.RatingSheet.lines sheet.now (closed_case case.now)) }
-{
-    sheet.rate(case)
 }
 
 // The figures of a line at a place, both from 1: as the sheet shows them, and faithful to the exact ones.
@@ -53,5 +46,5 @@ pub fn rate_case<S: RatingSheet>(sheet: &S, case: &ClosedCase) -> Result<Verdict
     ensures readable { Readable (S.RatingSheet.lines sheet.now (closed_case case.now)) }
     ensures governs { IfOk result (λ v. Governs (S.RatingSheet.lines sheet.now (closed_case case.now)) line_count v.governing) }
 {
-    asked_verdict(sheet, case)
+    sheet.rate(case)
 }

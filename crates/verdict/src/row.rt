@@ -1,17 +1,15 @@
 // A row of a sheet: the figures of one line.
-ghost use Rattle.std.specs.Prelude.{◌≤◌};
 ghost use Rattle.verdict.specs.Figures.{Consistent};
 
 use crate::answer::Shown;
 use crate::lines::PLACES;
+use arrayvec::ArrayVec;
 use failure::places::PlaceKind;
 
-// What the places of the line are, how many, and the figures of each; all 0 past the last place.
-#[derive(Clone, Copy)]
+// What the places of the line are, and the figures of each.
+#[derive(Drop)]
 pub struct Row {
     pub kind: PlaceKind,
-    pub count: usize,
-    pub figures: [Shown; PLACES],
-    ghost few: { count ≤ 16 },
-    ghost consistent: { Consistent figures },
+    pub figures: ArrayVec<Shown, PLACES>,
+    ghost consistent: { Consistent figures.items },
 }

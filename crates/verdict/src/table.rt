@@ -1,63 +1,48 @@
 // What thirteen rows tell of their lines. Lines count from 1, places from 0.
-ghost use Rattle.std.specs.Prelude.{◌≡◌, ◌-◌, ◌<◌, ◌≤◌, nat_le, slice_index_or};
-ghost use Rattle.verdict.specs.Utilisations.{utilisation as utilisation-of, used, largest};
+ghost use Rattle.std.specs.Prelude.{◌≡◌, ◌-◌, ◌≤◌, nat_le, slice_index_or};
+ghost use Rattle.verdict.specs.Utilisations.{used, largest};
 ghost use Rattle.verdict.specs.Checks.{line_within, none_over};
 ghost use Rattle.verdict.specs.Rows.{no_row, row_line, row_lines};
 
+use crate::answer::Shown;
 use crate::lines::LINES;
 use crate::row::Row;
 use crate::utilised::WHOLE;
 use failure::places::PlaceKind;
 
-impl Row {
-    // The utilisation at a place.
-    pub(crate) fn utilisation(&self, place: usize) -> u32
-        requires { place < 16 }
-        ensures { result ≡ utilisation-of (row_line self.now) place }
+impl Shown {
+    // Whether the utilisation does not pass 10,000.
+    fn is_within(&self) -> bool
+        ensures { result ≡ nat_le self.now.utilisation 10000 }
     {
-        self.figures[place].utilisation
+        self.utilisation <= WHOLE
     }
+}
 
+impl Row {
     // The utilisation at a place of the kind; 0 where the line has no such place.
     fn used(&self, kind: PlaceKind, place: usize) -> u32
         ensures { result ≡ used kind (row_line self.now) place }
     {
-        if self.kind == kind && place < self.count {
-            self.utilisation(place)
-        } else {
-            0
+        if self.kind != kind {
+            return 0;
         }
+        self.figures.get(place).map_or(0, |shown| shown.utilisation)
     }
 
     // The largest utilisation; 0 where the line has no place.
     fn largest(&self) -> u32
         ensures { result ≡ largest (row_line self.now) }
     {
-        let mut most: u32 = 0;
-        for place in 0..self.count {
-            most = most.max(self.utilisation(place));
-        }
-        most
-    }
-
-    // Whether the utilisation at a place does not pass 10,000.
-    fn is_within_at(&self, place: usize) -> bool
-        requires { place < 16 }
-        ensures { result ≡ nat_le (utilisation-of (row_line self.now) place) 10000 }
-    {
-        self.utilisation(place) <= WHOLE
+        let utilisations = self.figures.iter().map(|shown| shown.utilisation);
+        utilisations.max().unwrap_or(0)
     }
 
     // Whether no utilisation passes 10,000.
     fn is_within(&self) -> bool
         ensures { result ≡ line_within (row_line self.now) }
     {
-        for place in 0..self.count {
-            if !self.is_within_at(place) {
-                return false;
-            }
-        }
-        true
+        self.figures.iter().all(Shown::is_within)
     }
 }
 
@@ -81,10 +66,5 @@ pub(crate) fn largest_at(rows: &[Row; LINES], line: usize) -> u32
 pub(crate) fn none_past(rows: &[Row; LINES]) -> bool
     ensures { result ≡ none_over (row_lines rows.now) }
 {
-    for k in 0..LINES {
-        if !rows[k].is_within() {
-            return false;
-        }
-    }
-    true
+    rows.iter().all(Row::is_within)
 }

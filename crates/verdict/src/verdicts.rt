@@ -1,7 +1,6 @@
 // The verdict on thirteen rows.
-ghost use Rattle.std.specs.Prelude.{◌≡◌, ◌&&◌, nat_eq};
+ghost use Rattle.std.specs.Prelude.{◌≡◌};
 ghost use Rattle.verdict.specs.Lines.{line_count};
-ghost use Rattle.verdict.specs.Checks.{none_over};
 ghost use Rattle.verdict.specs.Governing.{Governs};
 ghost use Rattle.verdict.specs.Answers.{verdict};
 ghost use Rattle.verdict.specs.Rows.{row_lines};
@@ -13,13 +12,6 @@ use crate::lines::LINES;
 use crate::row::Row;
 use crate::table::none_past;
 
-// Whether no utilisation passes 10,000 and no combined check fails.
-fn is_accepted(rows: &[Row; LINES], failed_check: u8) -> bool
-    ensures { result ≡ (none_over (row_lines rows.now) && nat_eq failed_check 0) }
-{
-    none_past(rows) && failed_check == 0
-}
-
 // Accepted exactly where no utilisation passes 10,000 and every combined check holds, with the governing place and the
 // first check that fails.
 pub fn verdict_of(rows: &[Row; LINES]) -> Verdict
@@ -28,7 +20,7 @@ pub fn verdict_of(rows: &[Row; LINES]) -> Verdict
 {
     let failed_check = first_failed(rows);
     Verdict {
-        accepted: is_accepted(rows, failed_check),
+        accepted: none_past(rows) && failed_check.is_none(),
         governing: governing_of(rows),
         failed_check,
     }

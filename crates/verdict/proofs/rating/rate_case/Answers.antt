@@ -16,8 +16,8 @@ returns g c =
     let ms = g.S.RatingSheet.lines sheet case in
     let law = g.met.S.RatingSheet.lawful sheet case (valid_of c.args.case.now.within) in
     record {
-      value = c.asked_verdict.ensures;
-      judged = rated ms (λ v. Judged case ms v.accepted) c.asked_verdict.result c.asked_verdict.ensures (judges_rated case ms law);
+      value = c.rate.ensures;
+      judged = rated ms (λ v. Judged case ms v.accepted) c.rate.result c.rate.ensures (judges_rated case ms law);
       readable = readable case ms law;
-      governs = rated ms (λ v. Governs ms line_count v.governing) c.asked_verdict.result c.asked_verdict.ensures (λ _. governed ms);
+      governs = rated ms (λ v. Governs ms line_count v.governing) c.rate.result c.rate.ensures (λ _. governed ms);
     }

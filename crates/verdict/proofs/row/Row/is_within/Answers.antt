@@ -1,15 +1,12 @@
-use Rattle.std.proofs.Common.{leb, sym}
-use Rattle.verdict.specs.Rows.{row_line}
-use Rattle.verdict.specs.Utilisations.{utilisation}
-use Rattle.verdict.proofs.Below.{none_from, all_more}
+use Rattle.std.proofs.Common.{leb, ◌∙◌, rules, tests}
+use Rattle.std.proofs.lemmas.Iterator.{YieldsList-from_slice}
+use Rattle.std.proofs.lemmas.Iterator.Search.{all_from_yields_List}
+use Rattle.verdict.specs.declared.answer.Shown.{Shown}
+use Rattle.verdict.proofs.Listed.{within_listed}
 use Rattle.verdict.proofs.row.Row.is_within.Goals as goal
 
-pub returns-then-not-is_within_at : goal.returns-then-not-is_within_at
-returns-then-not-is_within_at c =
-    let m = row_line c.args.self.now in
-    sym (none_from c.args.self.now.count (λ k. leb (utilisation m k) 10000) c.loop-place.place c.loop-place-test.true (sym c.if-not-is_within_at.ensures))
-
-pub loop-place-preserved : goal.loop-place-preserved
-loop-place-preserved c =
-    let m = row_line c.args.self.now in
-    all_more c.loop-place.place (λ k. leb (utilisation m k) 10000) c.loop-place.invariant (sym c.if-not-is_within_at.ensures)
+pub returns : goal.returns
+returns c =
+    let r = c.args.self.now in
+    all_from_yields_List (λ (s : Shown). leb s.utilisation 10000) _ _ c.all.result c.all.ensures.ran (YieldsList-from_slice r.figures.items cc) (λ x b q k. search (rules, tests))
+    ∙ within_listed r

@@ -1,20 +1,18 @@
-use Rattle.std.proofs.Common.{◌≡◌, ℕ, ◌+◌, max, sym, ap, ◌∙◌, add-one, arith}
-use Rattle.failure.specs.Meanings.{Meaning}
-use Rattle.verdict.specs.Rows.{row_line}
-use Rattle.verdict.specs.Utilisations.{utilisation, largest_of, largest}
+use Rattle.std.proofs.Common.{◌≡◌, map, ap, ◌∙◌, rules, tests}
+use Rattle.std.specs.List.{reduce}
+use Rattle.std.specs.Option.{unwrap_or}
+use Rattle.std.specs.Ordering.{nat_cmp, max_by_ordering}
+use Rattle.std.proofs.lemmas.Iterator.{YieldsList-from_slice, YieldsList-from_map}
+use Rattle.std.proofs.lemmas.Iterator.Consumers.{reduce_from_yields_List}
+use Rattle.std.proofs.lemmas.List.Folds.{max_of_map}
+use Rattle.verdict.specs.declared.answer.Shown.{Shown}
+use Rattle.verdict.proofs.Listed.{largest_listed}
 use Rattle.verdict.proofs.row.Row.largest.Goals as goal
 
-step : (m : Meaning) (n : ℕ) → largest_of m (n + 1) ≡ max (largest_of m n) (utilisation m n)
-step m n = rw add-one
-
-pub loop-place-preserved : goal.loop-place-preserved
-loop-place-preserved c =
-    let m = row_line c.args.self.now in
-    c.max-most.ensures
-    ∙ ap (λ v. max v c.utilisation.result) c.loop-place.invariant
-    ∙ ap (max (largest_of m c.loop-place.place)) c.utilisation.ensures
-    ∙ sym (step m c.loop-place.place)
-
 pub returns : goal.returns
-unfolding largest
-returns c = c.loop-place.invariant ∙ ap (largest_of (row_line c.args.self.now)) (omega arith)
+returns c =
+    let r = c.args.self.now in
+    let xs = r.figures.items in
+    let listed : c.max.result ≡ reduce (λ p z. max_by_ordering (nat_cmp p z) p z) (map (λ (s : Shown). s.utilisation) xs) =
+    reduce_from_yields_List _ _ c.max.result c.max.ensures.ran (YieldsList-from_map _ (λ (s : Shown). s.utilisation) (YieldsList-from_slice xs cc) c.map-utilisations.ensures.closure (λ x r q k. search (rules, tests))) in
+    c.unwrap_or.ensures ∙ ap (λ v. unwrap_or v 0) listed ∙ max_of_map (λ (s : Shown). s.utilisation) xs ∙ largest_listed r
