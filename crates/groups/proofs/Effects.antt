@@ -1,5 +1,5 @@
 -- The group effect is never below its low readings, and hardly above its high ones.
-use Rattle.std.proofs.Common.{◌≡◌, ℕ, ◌+◌, ◌-◌, ◌*◌, ◌<◌, ◌≤◌, Bool, true, false, cond, eqb, List, [], ◌∷◌, map, length, sum_by, refl, ap, mul-le-mul_right, mul-le-mul_left, le_of_mul-le-mul_right, arith, lit<}
+use Rattle.std.proofs.Common.{◌≡◌, ℕ, ◌+◌, ◌-◌, ◌*◌, ◌^◌, ◌<◌, ◌≤◌, Bool, true, false, cond, eqb, List, [], ◌∷◌, map, length, sum_by, refl, ap, mul-le-mul_right, mul-le-mul_left, le_of_mul-le-mul_right, arith, lit<}
 use Rattle.std.specs.List.{range_with_len, AllByRecursion}
 use Rattle.std.proofs.lemmas.List.Sums.{sum_by-cons}
 use Rattle.std.proofs.lemmas.List.FromFn.{length-range_with_len}
@@ -11,16 +11,18 @@ use Rattle.influence.proofs.Lengths.{length_not_above, length_not_below, length_
 use Rattle.roots.specs.Division.{up}
 use Rattle.roots.proofs.Quotients.{up_least, up_most}
 use Rattle.bolts.specs.Loads.{total_load}
+use Rattle.bolts.proofs.Bounds.{total_load_bound}
 use Rattle.bolts.specs.declared.bolt.Direction.{Direction}
 use Rattle.forces.specs.Cases.{Case, Valid, force_read}
 use Rattle.forces.specs.Exact.{force, length_of}
 use Rattle.forces.proofs.Exactness.{accurate, forces_sum}
+use Rattle.forces.proofs.Sums.{weighted_le}
 use Rattle.forces.proofs.Weighted.{weighted, high_read, common, below_same, forces_near}
 use Rattle.forces.proofs.Whole.{positions}
 use Rattle.forces.specs.declared.opening.Opening.{Opening}
 use Rattle.groups.specs.Weights.{weight, low_weight, high_weight}
 use Rattle.groups.specs.Groups.{apart, weight_on, part, group_effect, own_or, LowChoice, HighChoice, low_part, high_part, low_effect, high_effect}
-use Rattle.groups.proofs.Weights.{weight_covers, weight_near, weight_small}
+use Rattle.groups.proofs.Weights.{weight_covers, weight_near, weight_small, weight_on_small}
 
 -- each reading is at most its number, so the total is
 totals_le : {X : Type 0} (f : X → Fraction) (g : X → ℕ) (xs : List X) → AllByRecursion (λ x. AtMost (f x) (whole (g x))) xs → AtMost (total (map f xs)) (whole (sum_by g xs))
@@ -78,6 +80,14 @@ parts_le w F (j ∷ js) =
     let c = parts_le w F js in
     let e = up_most (w j * F j) 1000000 (lit< tt) in
     omega arith
+
+-- all parts together are little more than all forces
+pub effect_small : (S : ℕ) → 0 < S → (c : Case) (d : Direction) (k : ℕ) → Valid c → group_effect S c d k < 2 ^ 64
+effect_small S pos c d k valid =
+    let n : ℕ = c.opening.anchors in
+    let rounded = parts_le (weight_on S c.opening k) (force c d) (range_with_len 0 n) in
+    let all = weighted_le 1000000 (weight_on S c.opening k) (force c d) (range_with_len 0 n) (weight_on_small S pos c.opening k) in
+    omega (arith, rounded, all, forces_sum c d valid, total_load_bound d _ c.bolts valid.sound valid.few, length-range_with_len 0 n, valid.opened.twelve, valid.few)
 
 -- a weight less 2 millionths
 lighter_le : (w v F : ℕ → ℕ) (xs : List ℕ) → ((j : ℕ) → w j ≤ v j + 2) → sum_by (λ j. w j * F j) xs ≤ sum_by (λ j. v j * F j) xs + 2 * sum_by F xs
