@@ -47,8 +47,10 @@ impl OpenCase {
     {
         let place = um(bolt.position);
         let arm = left(self.length + SLACK, place, anchor);
-        let sum = self.spread_at(place);
-        div_up(mn(bolt.load(direction)) * arm, Divisor { number: sum })
+        let spread = Divisor {
+            number: self.spread_at(place),
+        };
+        div_up(mn(bolt.load(direction)) * arm, spread)
     }
 
     // The force on the k-th anchor.
