@@ -1,5 +1,5 @@
 // The effect on an anchor of a group.
-ghost use Rattle.std.specs.Prelude.{◌≡◌, ℕ, ◌+◌, ◌*◌, ◌<◌, ◌≤◌, IfSome, if◌then◌else◌, Some, None, nat_lt};
+ghost use Rattle.std.specs.Prelude.{◌≡◌, ◌<◌, IfSome, if◌then◌else◌, Some, None, nat_lt};
 ghost use Rattle.groups.specs.Groups.{weight_on, part, group_effect, NeverBelowGroup, HardlyAboveGroup};
 ghost use Rattle.loadcase.specs.Closed.{closed_case};
 

@@ -1,5 +1,5 @@
 // The characteristic spacing of a group, and the weight of a neighbour at a distance.
-ghost use Rattle.std.specs.Prelude.{◌≡◌, ℕ, ◌+◌, ◌-◌, ◌*◌, ◌<◌, ◌≤◌, MatchOption};
+ghost use Rattle.std.specs.Prelude.{◌≡◌, ◌<◌, ◌≤◌, MatchOption};
 ghost use Rattle.groups.specs.Weights.{weight};
 
 use roots::division::{Divisor, div_up};

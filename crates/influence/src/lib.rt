@@ -2,7 +2,7 @@
 // be at most the exact length, and at most 5 micrometres below it.
 #![tactic(auto)]
 
-ghost use Rattle.std.specs.Prelude.{◌≡◌, ℕ, ◌+◌, ◌-◌, ◌*◌, ◌/◌, ◌^◌, ◌<◌, ◌≤◌, MatchOption};
+ghost use Rattle.std.specs.Prelude.{◌≡◌, ◌+◌, ◌*◌, ◌/◌, ◌^◌, ◌≤◌, MatchOption};
 ghost use Rattle.influence.specs.Exact.{Ends, NotAbove, NotBelow};
 ghost use Rattle.influence.specs.Lengths.{InRange, StepsTo, influence_length, spacing_root_of, twentieth_root_of};
 

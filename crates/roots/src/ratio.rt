@@ -1,5 +1,5 @@
 // The square root of a ratio that is at most 1, in millionths.
-ghost use Rattle.std.specs.Prelude.{◌≡◌, ℕ, ◌+◌, ◌-◌, ◌*◌, ◌^◌, ◌<◌, ◌≤◌, MatchOption};
+ghost use Rattle.std.specs.Prelude.{◌≡◌, ◌-◌, ◌*◌, ◌^◌, ◌<◌, ◌≤◌, MatchOption};
 ghost use Rattle.roots.specs.Extremes.{Greatest, Least};
 ghost use Rattle.roots.specs.Roots.{root_down_of, root_up_of};
 

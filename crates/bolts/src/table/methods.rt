@@ -1,5 +1,5 @@
 // Making a table, placing and lifting bolts, and reading it.
-ghost use Rattle.std.specs.Prelude.{◌≡◌, ◌+◌, ◌-◌, ◌<◌, ◌≤◌, true, ◌⊎◌, length, is_ok, MatchOption, if◌then◌else◌};
+ghost use Rattle.std.specs.Prelude.{◌≡◌, ◌+◌, ◌-◌, ◌≤◌, true, length, is_ok, MatchOption, if◌then◌else◌};
 ghost use Rattle.bolts.specs.Tables.{held, reaches, Made};
 ghost use Rattle.bolts.specs.Bolts.{placed, lifted};
 ghost use Rattle.bolts.specs.Asked.{first_no};

@@ -1,5 +1,5 @@
 // The forces that the bolts of a case give its anchors, in mN. Lengths in µm.
-ghost use Rattle.std.specs.Prelude.{◌≡◌, ◌+◌, ◌-◌, ◌*◌, ◌<◌, ◌≤◌, Contains};
+ghost use Rattle.std.specs.Prelude.{◌≡◌, ◌-◌, ◌*◌, ◌<◌, Contains};
 ghost use Rattle.bolts.specs.Loads.{load_of};
 ghost use Rattle.forces.specs.Shares.{gap, distances, spread, share};
 ghost use Rattle.forces.specs.Cases.{um, mn, anchor_distances};
