@@ -2,8 +2,7 @@
 use bolts::bolt::Bolt;
 use forces::opening::Opening;
 use std::str::from_utf8;
-
-const MOST_DIGITS: usize = 9;
+use text_pieces::numeral::number_in;
 
 #[derive(Clone, Copy)]
 pub enum Line {
@@ -25,34 +24,24 @@ impl Line {
         let mut words = text.split(' ');
         let said = match words.next()? {
             "open" => Line::Open(Opening {
-                anchors: number_in(words.next()?)?,
-                spacing: number_in(words.next()?)?,
-                inertia: number_in(words.next()?)?,
+                anchors: number(words.next())?,
+                spacing: number(words.next())?,
+                inertia: number(words.next())?,
             }),
             "place" => Line::Place(Bolt {
-                position: number_in(words.next()?)?,
-                tension: number_in(words.next()?)?,
-                shear: number_in(words.next()?)?,
+                position: number(words.next())?,
+                tension: number(words.next())?,
+                shear: number(words.next())?,
             }),
-            "lift" => Line::Lift(number_in(words.next()?)?),
+            "lift" => Line::Lift(number(words.next())?),
             "forces" => Line::Forces,
             _ => return None,
         };
-        match words.next() {
-            Some(_) => None,
-            None => Some(said),
-        }
+        words.next().is_none().then_some(said)
     }
 }
 
-// The number that 1 to 9 digits write; none where the word is no such numeral.
-fn number_in(word: &str) -> Option<u32> {
-    if word.len() > MOST_DIGITS {
-        return None;
-    }
-    match word.as_bytes() {
-        // no sign before the digits, which `parse` would take
-        [b'0'..=b'9', ..] => word.parse::<u32>().ok(),
-        _ => None,
-    }
+// The number that a word writes; none where there is no word or it is no numeral.
+fn number(word: Option<&str>) -> Option<u32> {
+    number_in(word?.as_bytes())
 }

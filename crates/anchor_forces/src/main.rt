@@ -15,103 +15,87 @@
 mod line;
 
 use anyhow::anyhow;
-use bolts::bolt::{Bolt, Direction};
+use bolts::bolt::Direction;
 use bolts::fault::Fault;
 use bolts::refusal::Refusal;
-use forces::opening::Opening;
 use line::Line;
 use loadcase::closed::ClosedCase;
 use loadcase::open::OpenCase;
 use std::io;
 use std::io::{BufRead, BufReader};
 
-// What becomes of a line.
-#[derive(Clone, Copy)]
-enum Answer {
-    Done,
+// Why a line was not followed.
+#[derive(Drop)]
+enum Trouble {
+    // A call was refused: it is answered, and the next line read.
     Refused(Refusal),
+    // The line says nothing, or there is no open case: likewise.
     NotUnderstood,
+    // The program cannot go on.
+    Failed(anyhow::Error),
 }
 
-fn answer_of(res: Result<(), Refusal>) -> Answer {
-    match res {
-        Ok(()) => Answer::Done,
-        Err(refusal) => Answer::Refused(refusal),
+impl From<Refusal> for Trouble {
+    fn from(refusal: Refusal) -> Trouble {
+        Trouble::Refused(refusal)
+    }
+}
+
+impl From<Fault> for Trouble {
+    fn from(fault: Fault) -> Trouble {
+        match fault {
+            Fault::Refused(refusal) => Trouble::Refused(refusal),
+            Fault::Memory => Trouble::Failed(anyhow!("no memory for the case")),
+        }
+    }
+}
+
+impl From<io::Error> for Trouble {
+    fn from(error: io::Error) -> Trouble {
+        Trouble::Failed(error.into())
     }
 }
 
 fn print_figures(rt: &HostRuntime, case: &ClosedCase) -> io::Result<()> {
     let length = case.influence_length();
     println!(rt; "influence {length}")?;
-    for anchor in 1..=case.opening().anchors {
-        let k = (anchor - 1) as usize;
-        let tension = case.force(Direction::Tension, k);
-        let shear = case.force(Direction::Shear, k);
-        if let (Some(tension), Some(shear)) = (tension, shear) {
-            println!(rt; "anchor {anchor} {tension} {shear}")?;
-        }
+    for k in 0..case.opening().anchors {
+        let anchor = k + 1;
+        let tension = case.force(Direction::Tension, k as usize).unwrap();
+        let shear = case.force(Direction::Shear, k as usize).unwrap();
+        println!(rt; "anchor {anchor} {tension} {shear}")?;
     }
     Ok(())
 }
 
-fn open(rt: &HostRuntime, held: &mut Option<OpenCase>, opening: Opening) -> anyhow::Result<Answer> {
-    match OpenCase::open(rt.alloc(), opening) {
-        Ok(case) => {
-            *held = Some(case);
-            Ok(Answer::Done)
-        }
-        Err(Fault::Refused(refusal)) => Ok(Answer::Refused(refusal)),
-        Err(Fault::Memory) => Err(anyhow!("no memory for the case")),
-    }
-}
-
-fn place(held: &mut Option<OpenCase>, bolt: Bolt) -> Answer {
-    match held {
-        Some(case) => answer_of(case.place(bolt)),
-        None => Answer::NotUnderstood,
-    }
-}
-
-fn lift(held: &mut Option<OpenCase>, position: u32) -> Answer {
-    match held {
-        Some(case) => answer_of(case.lift(position)),
-        None => Answer::NotUnderstood,
-    }
-}
-
-fn forces(rt: &HostRuntime, held: &mut Option<OpenCase>) -> io::Result<Answer> {
-    let Some(case) = held.take() else {
-        return Ok(Answer::NotUnderstood);
-    };
+fn print_forces(rt: &HostRuntime, held: &mut Option<OpenCase>) -> Result<(), Trouble> {
+    let case = held.take().ok_or(Trouble::NotUnderstood)?;
     let closed = case.close();
     print_figures(rt, &closed)?;
     *held = Some(closed.reopen());
-    Ok(Answer::Done)
+    Ok(())
 }
 
-fn follow(
-    rt: &HostRuntime,
-    held: &mut Option<OpenCase>,
-    line: Option<Line>,
-) -> anyhow::Result<Answer> {
+fn follow(rt: &HostRuntime, held: &mut Option<OpenCase>, line: Line) -> Result<(), Trouble> {
     match line {
-        Some(Line::Open(opening)) => open(rt, held, opening),
-        Some(Line::Place(bolt)) => Ok(place(held, bolt)),
-        Some(Line::Lift(position)) => Ok(lift(held, position)),
-        Some(Line::Forces) => Ok(forces(rt, held)?),
-        None => Ok(Answer::NotUnderstood),
+        Line::Open(opening) => *held = Some(OpenCase::open(rt.alloc(), opening)?),
+        Line::Place(bolt) => held.as_mut().ok_or(Trouble::NotUnderstood)?.place(bolt)?,
+        Line::Lift(position) => held.as_mut().ok_or(Trouble::NotUnderstood)?.lift(position)?,
+        Line::Forces => print_forces(rt, held)?,
     }
+    Ok(())
 }
 
-fn print_answer(rt: &HostRuntime, answer: Answer, number: u64) -> io::Result<()> {
-    match answer {
-        Answer::Done => Ok(()),
-        Answer::Refused(refusal) => {
+fn complain(rt: &HostRuntime, trouble: Trouble, number: u64) -> anyhow::Result<()> {
+    match trouble {
+        Trouble::Refused(refusal) => {
             let question = refusal.number();
-            println!(rt; "refused {question} {number}")
+            println!(rt; "refused {question} {number}")?;
         }
-        Answer::NotUnderstood => println!(rt; "line {number} is not understood"),
+        Trouble::NotUnderstood => println!(rt; "line {number} is not understood")?,
+        Trouble::Failed(error) => return Err(error),
     }
+    Ok(())
 }
 
 fn run(rt: &HostRuntime) -> anyhow::Result<()> {
@@ -124,8 +108,10 @@ fn run(rt: &HostRuntime) -> anyhow::Result<()> {
         if input.read_until(b'\n', &mut bytes)? == 0 {
             break;
         }
-        let answer = follow(rt, &mut held, Line::parse(bytes.as_slice()))?;
-        print_answer(rt, answer, number)?;
+        let line = Line::parse(bytes.as_slice()).ok_or(Trouble::NotUnderstood);
+        if let Err(trouble) = line.and_then(|line| follow(rt, &mut held, line)) {
+            complain(rt, trouble, number)?;
+        }
     }
     Ok(())
 }

@@ -2,7 +2,7 @@
 use Rattle.std.proofs.Common.{◌≡◌, ℕ, ◌+◌, ◌-◌, ◌<◌, ◌≤◌, List, length, min, Option, Some, None, MatchOption, ap, ⊎_elim, arith}
 use Rattle.std.proofs.lemmas.Bool.{cases_lt}
 use Rattle.bolts.specs.Bolts.{position_at, Spaced}
-use Rattle.bolts.specs.Neighbours.{distance, Other, IsGap, Nearest, NearestAt}
+use Rattle.bolts.specs.Neighbours.{distance, Other, IsGap, Nearer, Nearest, NearestAt}
 use Rattle.bolts.specs.declared.bolt.Bolt.{Bolt}
 use Rattle.bolts.proofs.Rows.{pairs}
 
@@ -55,21 +55,17 @@ module _ (xs : List Bolt) (s : Spaced xs) (k : ℕ) where
   here : 1 ≤ k → position_at xs ((k - 1) + 1) ≡ position_at xs k
   here p = let q : (k - 1) + 1 ≡ k = omega arith in ap (position_at xs) q
 
-  pub nearest_of_both : (b a : ℕ) → GapBefore (Some b) → GapAfter (Some a) → NearestAt xs k (min b a)
-  nearest_of_both b a (p, (_, h)) (l, g) =
-      by_neighbours xs s k (min b a) (omega arith) (λ j e. omega (arith, same_place j e, here p)) (λ _. omega arith)
+  pub nearest_of : (b a z : Option ℕ) → GapBefore b → GapAfter a → Nearer b a z → Nearest xs k z
+  nearest_of (Some b) (Some a) z f g e =
+      rw e (by_neighbours xs s k (min b a) (omega arith) (λ j q. omega (arith, same_place j q, here f.0)) (λ _. omega arith)
       (⊎_elim
-      (λ (lt : b < a). before xs s k (min b a) (omega arith) (k - 1) (omega arith) (omega (arith, here p)))
-      (λ (ge : a ≤ b). after xs s k (min b a) (omega arith) l (omega arith))
-      (cases_lt b a))
-
-  pub nearest_of_before : (b : ℕ) → GapBefore (Some b) → GapAfter None → NearestAt xs k b
-  nearest_of_before b (p, (l, h)) last =
-      by_neighbours xs s k b (omega arith) (λ j e. omega (arith, same_place j e, here p)) (λ m. absurd (omega arith))
-      (before xs s k b (omega arith) (k - 1) (omega arith) (omega (arith, here p)))
-
-  pub nearest_of_after : (a : Option ℕ) → GapBefore None → GapAfter a → Nearest xs k a
-  nearest_of_after (Some a) first g =
-      by_neighbours xs s k a (omega arith) (λ j e. let past = first (omega arith) in absurd (omega arith)) (λ _. omega arith) (after xs s k a (omega arith) g.0 g.1)
-  nearest_of_after None first last = λ h.
-      ⊎_elim (λ p. let past = first p in absurd (omega arith)) (λ z. omega arith) (cases_lt 0 k)
+      (λ (lt : b < a). before xs s k (min b a) (omega arith) (k - 1) (omega arith) (omega (arith, here f.0)))
+      (λ (ge : a ≤ b). after xs s k (min b a) (omega arith) g.0 (omega arith))
+      (cases_lt b a)))
+  nearest_of (Some b) None z f last e =
+      rw e (by_neighbours xs s k b (omega arith) (λ j q. omega (arith, same_place j q, here f.0)) (λ m. absurd (omega arith))
+      (before xs s k b (omega arith) (k - 1) (omega arith) (omega (arith, here f.0))))
+  nearest_of None (Some a) z first g e =
+      rw e (by_neighbours xs s k a (omega arith) (λ j q. let past = first (omega arith) in absurd (omega arith)) (λ _. omega arith) (after xs s k a (omega arith) g.0 g.1))
+  nearest_of None None z first last e =
+      rw e (λ h. ⊎_elim (λ p. let past = first p in absurd (omega arith)) (λ n. omega arith) (cases_lt 0 k))

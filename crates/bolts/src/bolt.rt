@@ -1,5 +1,5 @@
 // One bolt, and its load in a direction.
-ghost use Rattle.std.specs.Prelude.{◌≡◌};
+ghost use Rattle.std.specs.Prelude.{◌≡◌, nat_lt};
 ghost use Rattle.bolts.specs.Loads.{load_of, loaded};
 
 // The most that a bolt bears in a direction, in N.
@@ -28,6 +28,13 @@ impl Bolt {
             Direction::Tension => self.tension,
             Direction::Shear => self.shear,
         }
+    }
+
+    // Whether it lies before a position.
+    pub(crate) fn lies_before(self, position: u32) -> bool
+        ensures { result ≡ nat_lt self.position position }
+    {
+        self.position < position
     }
 
     // Whether both loads are in range, and not both 0.

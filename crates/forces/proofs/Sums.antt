@@ -1,18 +1,17 @@
 -- Sums over anchors and over bolts.
-use Rattle.std.proofs.Common.{◌≡◌, ℕ, zero, suc, ◌+◌, ◌-◌, ◌*◌, ◌<◌, ◌≤◌, List, [], ◌∷◌, ◌++◌, sum_by, sym, refl, ap, ◌∙◌, mul-le-mul_right, mul-le-mul_left, le_of_mul-le-mul_right, add-one, arith}
+use Rattle.std.proofs.Common.{◌≡◌, ℕ, zero, suc, ◌+◌, ◌-◌, ◌*◌, ◌<◌, ◌≤◌, List, [], ◌∷◌, sum_by, sym, refl, ap, ◌∙◌, mul-le-mul_right, mul-le-mul_left, le_of_mul-le-mul_right, add-one, arith}
 use Rattle.std.specs.List.{range_with_len}
-use Rattle.std.proofs.lemmas.List.FromFn.{map-range_with_len_more}
-use Rattle.std.proofs.lemmas.List.{map-id}
-use Rattle.std.proofs.lemmas.List.Sums.{sum_by-cons, sum_by_push}
+use Rattle.std.proofs.lemmas.List.FromFn.{sum_by-map-range_with_len_more}
+use Rattle.std.proofs.lemmas.List.Sums.{sum_by-cons, sum-map}
 use Rattle.roots.proofs.Quotients.{up_most}
 use Rattle.forces.specs.Shares.{gap, distances, spread, share}
 use Rattle.forces.proofs.Spreads.{spread_slow, length-distances, spread_large}
 
-counting_more : (n : ℕ) → range_with_len 0 (n + 1) ≡ range_with_len 0 n ++ (n ∷ [])
-counting_more n = sym (map-id (range_with_len 0 (n + 1))) ∙ map-range_with_len_more (λ (x : ℕ). x) 0 n n (omega arith) ∙ ap (λ ys. ys ++ (n ∷ [])) (map-id (range_with_len 0 n))
-
 pub sum_by_counting : (f : ℕ → ℕ) (n : ℕ) → sum_by f (range_with_len 0 (suc n)) ≡ sum_by f (range_with_len 0 n) + f n
-sum_by_counting f n = ap (λ (m : ℕ). sum_by f (range_with_len 0 m)) (sym (add-one n)) ∙ ap (sum_by f) (counting_more n) ∙ sum_by_push f (range_with_len 0 n) n
+sum_by_counting f n =
+    let more = sum_by-map-range_with_len_more (λ x. x) f 0 n n (omega arith) in
+    let one : sum_by f (range_with_len 0 (n + 1)) ≡ sum_by f (range_with_len 0 n) + f n = omega (arith, more, sum-map f (range_with_len 0 (n + 1)), sum-map f (range_with_len 0 n)) in
+    ap (λ (m : ℕ). sum_by f (range_with_len 0 m)) (sym (add-one n)) ∙ one
 
 -- the spread as a sum over the anchors
 pub spread_sum : (L n s p : ℕ) → sum_by (λ k. L - gap p (k * s)) (range_with_len 0 n) ≡ spread L (distances n s p)

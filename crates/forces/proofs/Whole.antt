@@ -1,16 +1,15 @@
 -- The forces of a whole case against their exact readings, and their bounds.
-use Rattle.std.proofs.Common.{◌≡◌, ℕ, ◌+◌, ◌-◌, ◌*◌, ◌<◌, ◌≤◌, true, List, [], ◌∷◌, map, length, get_or, sum_by, ap, mul-le-mul_right, arith}
+use Rattle.std.proofs.Common.{◌≡◌, ℕ, ◌+◌, ◌-◌, ◌*◌, ◌<◌, ◌≤◌, List, [], ◌∷◌, map, length, sum_by, ap, arith}
 use Rattle.std.specs.List.{range_with_len, AllByRecursion}
-use Rattle.std.proofs.ByRecursion.{All-from_get_or, sum_by_le}
-use Rattle.std.proofs.lemmas.Bool.{leb-true, and_parts}
+use Rattle.std.proofs.lemmas.List.Elements.{All-from_get_or, recursion_from_All}
 use Rattle.std.proofs.lemmas.List.Sums.{sum_by-cons}
 use Rattle.fractions.specs.Fractions.{Fraction, AtMost, whole, plus, total}
 use Rattle.fractions.proofs.Totals.{plus_whole, whole_plus}
+use Rattle.bolts.proofs.Bounds.{total_load_bound}
 use Rattle.bolts.specs.Bolts.{Sound, no_bolt}
-use Rattle.bolts.specs.Loads.{load_of, loaded, total_load}
+use Rattle.bolts.specs.Loads.{load_of, total_load}
 use Rattle.bolts.specs.declared.bolt.Bolt.{Bolt}
 use Rattle.bolts.specs.declared.bolt.Direction.{Direction}
-use Rattle.bolts.specs.declared.bolt.Direction.TheVariants.{Tension, Shear}
 use Rattle.forces.specs.Readings.{Beyond}
 use Rattle.forces.specs.Cases.{InRange, reach, um, anchor_distances, share_by, share_read}
 use Rattle.forces.specs.declared.opening.Opening.{Opening}
@@ -53,22 +52,8 @@ module _ (L : ℕ) (o : Opening) (d : Direction) (x y : Fraction) (ranged : InRa
       let m : total_load d (b ∷ bs) + length (b ∷ bs) ≡ (load_of d b + 1) + (total_load d bs + length bs) = omega arith in
       rw (e, m) sum
 
--- each load is in range
-load_le : (d : Direction) (b : Bolt) → loaded b ≡ true → load_of d b ≤ 200000
-load_le Tension b h = leb-true _ _ (and_parts _ _ (and_parts _ _ h).0).0
-load_le Shear b h = leb-true _ _ (and_parts _ _ (and_parts _ _ h).0).1
-
 pub positions : (r : ℕ) (bolts : List Bolt) → Sound r bolts → AllByRecursion (λ b. b.position ≤ r) bolts
-positions r bolts s = All-from_get_or (λ b. b.position ≤ r) bolts no_bolt (λ i h. (s i h).0)
-
-loads : (d : Direction) (r : ℕ) (bolts : List Bolt) → Sound r bolts → AllByRecursion (λ b. load_of d b ≤ 200000) bolts
-loads d r bolts s = All-from_get_or (λ b. load_of d b ≤ 200000) bolts no_bolt (λ i h. load_le d (get_or bolts i no_bolt) (s i h).1)
-
-pub total_load_le : (d : Direction) (r : ℕ) (bolts : List Bolt) → Sound r bolts → length bolts ≤ 16 → total_load d bolts ≤ 3200000
-total_load_le d r bolts s few =
-    let a = sum_by_le (load_of d) 200000 bolts (loads d r bolts s) in
-    let b = mul-le-mul_right 200000 few in
-    omega arith
+positions r bolts s = recursion_from_All (λ b. b.position ≤ r) bolts (All-from_get_or (λ b. b.position ≤ r) bolts no_bolt (λ i h. (s i h).0))
 
 -- all forces of a case together
 module _ (L : ℕ) (o : Opening) (d : Direction) (ranged : InRange o) (wider : um o.spacing ≤ L) (long : 66000 ≤ L) where
@@ -85,5 +70,5 @@ module _ (L : ℕ) (o : Opening) (d : Direction) (ranged : InRange o) (wider : u
   forces_le bolts s few =
       let a = sum_by_swap (λ b k. share_by L o d k b) bolts (range_with_len 0 o.anchors) in
       let b = all_shares bolts (positions (reach o) bolts s) in
-      let c = total_load_le d (reach o) bolts s few in
+      let c = total_load_bound d (reach o) bolts s few in
       omega arith

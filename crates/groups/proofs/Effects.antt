@@ -1,8 +1,9 @@
 -- The group effect is never below its low readings, and hardly above its high ones.
-use Rattle.std.proofs.Common.{◌≡◌, ℕ, ◌+◌, ◌-◌, ◌*◌, ◌<◌, ◌≤◌, Bool, true, false, cond, eqb, List, [], ◌∷◌, map, length, sum_by, refl, ap, mul-le-mul_right, mul-le-mul_left, le_of_mul-le-mul_right, arith, lit<}
-use Rattle.std.specs.List.{range_with_len, AllByRecursion}
+use Rattle.std.proofs.Common.{◌≡◌, ℕ, ◌+◌, ◌-◌, ◌*◌, ◌^◌, ◌<◌, ◌≤◌, Bool, true, false, cond, eqb, List, [], ◌∷◌, map, length, get_or, sum_by, refl, ap, subst, mul-le-mul_right, mul-le-mul_left, le_of_mul-le-mul_right, arith, lit<}
+use Rattle.std.specs.List.{range_with_len, All}
 use Rattle.std.proofs.lemmas.List.Sums.{sum_by-cons}
-use Rattle.std.proofs.lemmas.List.FromFn.{length-range_with_len}
+use Rattle.std.proofs.lemmas.List.Elements.{All-head, All-tail, All-from_get_or}
+use Rattle.std.proofs.lemmas.List.FromFn.{length-range_with_len, get_or-range_with_len}
 use Rattle.fractions.specs.Fractions.{Fraction, AtMost, whole, plus, times, total}
 use Rattle.fractions.proofs.Totals.{plus_whole}
 use Rattle.influence.specs.Lengths as lengths
@@ -11,35 +12,46 @@ use Rattle.influence.proofs.Lengths.{length_not_above, length_not_below, length_
 use Rattle.roots.specs.Division.{up}
 use Rattle.roots.proofs.Quotients.{up_least, up_most}
 use Rattle.bolts.specs.Loads.{total_load}
+use Rattle.bolts.proofs.Bounds.{total_load_bound}
 use Rattle.bolts.specs.declared.bolt.Direction.{Direction}
 use Rattle.forces.specs.Cases.{Case, Valid, force_read}
 use Rattle.forces.specs.Exact.{force, length_of}
 use Rattle.forces.proofs.Exactness.{accurate, forces_sum}
+use Rattle.forces.proofs.Sums.{weighted_le}
 use Rattle.forces.proofs.Weighted.{weighted, high_read, common, below_same, forces_near}
 use Rattle.forces.proofs.Whole.{positions}
 use Rattle.forces.specs.declared.opening.Opening.{Opening}
 use Rattle.groups.specs.Weights.{weight, low_weight, high_weight}
 use Rattle.groups.specs.Groups.{apart, weight_on, part, group_effect, own_or, LowChoice, HighChoice, low_part, high_part, low_effect, high_effect}
-use Rattle.groups.proofs.Weights.{weight_covers, weight_near, weight_small}
+use Rattle.groups.proofs.Weights.{weight_covers, weight_near, weight_small, weight_on_small}
 
 -- each reading is at most its number, so the total is
-totals_le : {X : Type 0} (f : X → Fraction) (g : X → ℕ) (xs : List X) → AllByRecursion (λ x. AtMost (f x) (whole (g x))) xs → AtMost (total (map f xs)) (whole (sum_by g xs))
+totals_le : {X : Type 0} (f : X → Fraction) (g : X → ℕ) (xs : List X) → All (λ x. AtMost (f x) (whole (g x))) xs → AtMost (total (map f xs)) (whole (sum_by g xs))
 totals_le f g [] all = omega arith
-totals_le f g (x ∷ xs) (h, all) = let e = sum_by-cons g x xs in rw e (plus_whole (f x) (total (map f xs)) (g x) (sum_by g xs) h (totals_le f g xs all))
+totals_le f g (x ∷ xs) all =
+    let h = All-head (λ y. AtMost (f y) (whole (g y))) x xs all in
+    let rest = totals_le f g xs (All-tail (λ y. AtMost (f y) (whole (g y))) x xs all) in
+    let e = sum_by-cons g x xs in
+    rw e (plus_whole (f x) (total (map f xs)) (g x) (sum_by g xs) h rest)
 
 -- numbers over one divisor, each at most its reading
-over_totals : {X : Type 0} (f : X → Fraction) (g : X → ℕ) (D : ℕ) (xs : List X) → AllByRecursion (λ x. g x * (f x).below ≤ (f x).above * D) xs → sum_by g xs * (total (map f xs)).below ≤ (total (map f xs)).above * D
+over_totals : {X : Type 0} (f : X → Fraction) (g : X → ℕ) (D : ℕ) (xs : List X) → All (λ x. g x * (f x).below ≤ (f x).above * D) xs → sum_by g xs * (total (map f xs)).below ≤ (total (map f xs)).above * D
 over_totals f g D [] all = omega arith
-over_totals f g D (x ∷ xs) (h, all) =
+over_totals f g D (x ∷ xs) all =
+    let h = All-head (λ y. g y * (f y).below ≤ (f y).above * D) x xs all in
+    let rest = over_totals f g D xs (All-tail (λ y. g y * (f y).below ≤ (f y).above * D) x xs all) in
     let e = ap (λ (n : ℕ). n * ((f x).below * (total (map f xs)).below)) (sum_by-cons g x xs) in
     let a = mul-le-mul_right (total (map f xs)).below h in
-    let b = mul-le-mul_right (f x).below (over_totals f g D xs all) in
+    let b = mul-le-mul_right (f x).below rest in
     omega arith
 
 -- what holds of every anchor
-all_anchors : (P : ℕ → Type 0) (a n m : ℕ) → a + n ≤ m → ((j : ℕ) → j < m → P j) → AllByRecursion P (range_with_len a n)
-all_anchors P a Prim.Native.Nat.zero m h f = tt
-all_anchors P a (Prim.Native.Nat.suc n) m h f = (f a (omega arith), all_anchors P (a + 1) n m (omega arith) f)
+all_anchors : (P : ℕ → Type 0) (n : ℕ) → ((j : ℕ) → j < n → P j) → All P (range_with_len 0 n)
+all_anchors P n f =
+    All-from_get_or P (range_with_len 0 n) 0 (λ i h.
+    let lt : i < n = omega (arith, h, length-range_with_len 0 n) in
+    let at : i ≡ get_or (range_with_len 0 n) i 0 = omega (arith, get_or-range_with_len 0 n i 0 lt) in
+    subst P at (f i lt))
 
 -- one part: own force, or a neighbour's weighted one
 own_low : (F fn fd : ℕ) → fn ≤ F * fd → 1 * fn ≤ up (1000000 * F) 1000000 * (1 * fd)
@@ -67,7 +79,7 @@ module _ (S : ℕ) (pos : 0 < S) (c : Case) (d : Direction) (k : ℕ) (valid : V
       omega (arith, other_low (S - apart c.opening k j) S w.root.above w.root.below (weight S (apart c.opening k j)) (force c d j) f.above f.below a (omega (arith, n)))
 
   pub effect_covers : (h : LowChoice S pos c k) → AtMost (low_effect h d) (whole (group_effect S c d k))
-  effect_covers h = totals_le (low_part h d) (part S c d k) (range_with_len 0 c.opening.anchors) (all_anchors (λ j. AtMost (low_part h d j) (whole (part S c d k j))) 0 c.opening.anchors c.opening.anchors (omega arith) (λ j here. low_at h j here (eqb j k) refl))
+  effect_covers h = totals_le (low_part h d) (part S c d k) (range_with_len 0 c.opening.anchors) (all_anchors (λ j. AtMost (low_part h d j) (whole (part S c d k j))) c.opening.anchors (λ j here. low_at h j here (eqb j k) refl))
 
 -- the parts of an effect, rounded up, against the weighted forces
 parts_le : (w F : ℕ → ℕ) (xs : List ℕ) → 1000000 * sum_by (λ j. up (w j * F j) 1000000) xs ≤ sum_by (λ j. w j * F j) xs + 1000000 * length xs
@@ -78,6 +90,14 @@ parts_le w F (j ∷ js) =
     let c = parts_le w F js in
     let e = up_most (w j * F j) 1000000 (lit< tt) in
     omega arith
+
+-- all parts together are little more than all forces
+pub effect_small : (S : ℕ) → 0 < S → (c : Case) (d : Direction) (k : ℕ) → Valid c → group_effect S c d k < 2 ^ 64
+effect_small S pos c d k valid =
+    let n : ℕ = c.opening.anchors in
+    let rounded = parts_le (weight_on S c.opening k) (force c d) (range_with_len 0 n) in
+    let all = weighted_le 1000000 (weight_on S c.opening k) (force c d) (range_with_len 0 n) (weight_on_small S pos c.opening k) in
+    omega (arith, rounded, all, forces_sum c d valid, total_load_bound d _ c.bolts valid.sound valid.few, length-range_with_len 0 n, valid.opened.twelve, valid.few)
 
 -- a weight less 2 millionths
 lighter_le : (w v F : ℕ → ℕ) (xs : List ℕ) → ((j : ℕ) → w j ≤ v j + 2) → sum_by (λ j. w j * F j) xs ≤ sum_by (λ j. v j * F j) xs + 2 * sum_by F xs
@@ -153,7 +173,7 @@ module _ (S : ℕ) (pos : 0 < S) (c : Case) (d : Direction) (k : ℕ) (valid : V
       let eased = lighter_le (weight_on S o k) v F (range_with_len 0 n) (λ j. weights_le j (eqb j k)) in
       let near = forces_near v (λ j. lighter_small j (eqb j k)) L o d x y valid.opened (length_past_spacing i s r) (length_at_least i s r) (length_not_below i s r h.ends) (length_not_above i s r h.ends) c.bolts (positions _ c.bolts valid.sound) h.beyond in
       let Q : Fraction = high_effect h d in
-      let read = over_totals (high_part h d) (λ j. v j * (high_read x y o d c.bolts j).above) (1000000 * B) (range_with_len 0 n) (all_anchors (λ j. v j * (high_read x y o d c.bolts j).above * (high_part h d j).below ≤ (high_part h d j).above * (1000000 * B)) 0 n n (omega arith) (λ j here. high_at h j (eqb j k) refl)) in
+      let read = over_totals (high_part h d) (λ j. v j * (high_read x y o d c.bolts j).above) (1000000 * B) (range_with_len 0 n) (all_anchors (λ j. v j * (high_read x y o d c.bolts j).above * (high_part h d j).below ≤ (high_part h d j).above * (1000000 * B)) n (λ j here. high_at h j (eqb j k) refl)) in
       let all = forces_sum c d valid in
       let long : length (range_with_len 0 n) ≡ n = length-range_with_len 0 n in
       let done = final (group_effect S c d k) M (weighted v (λ j. (high_read x y o d c.bolts j).above) n) Q.above Q.below B (total_load d c.bolts) n (length c.bolts) (sum_by F (range_with_len 0 n)) (high_read x y o d c.bolts 0).proper (omega (arith, rounded, eased, long)) near read all valid.opened.twelve valid.few in

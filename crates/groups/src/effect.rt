@@ -1,63 +1,57 @@
 // The effect on an anchor of a group.
-ghost use Rattle.std.specs.Prelude.{◌≡◌, ℕ, ◌+◌, ◌*◌, ◌<◌, ◌≤◌, IfSome, if◌then◌else◌, Some, None, nat_lt};
-ghost use Rattle.roots.specs.Division.{up};
-ghost use Rattle.forces.specs.Shares.{gap};
-ghost use Rattle.forces.specs.Cases.{um};
-ghost use Rattle.forces.specs.Exact.{force};
+ghost use Rattle.std.specs.Prelude.{◌≡◌, ◌<◌, IfSome, if◌then◌else◌, Some, None, nat_lt};
 ghost use Rattle.groups.specs.Groups.{weight_on, part, group_effect, NeverBelowGroup, HardlyAboveGroup};
 ghost use Rattle.loadcase.specs.Closed.{closed_case};
 
 use crate::spacing::CharacteristicSpacing;
 use bolts::bolt::Direction;
-use forces::opening::Opening;
+use forces::units::um;
 use loadcase::closed::ClosedCase;
 use roots::division::{Divisor, div_up};
-
-const UM_IN_TENTH: u64 = 100;
 
 // A weight of one, in millionths.
 const WHOLE: u64 = 1_000_000;
 
-// How far two anchors lie apart, in µm.
-fn anchors_apart(spacing: u32, k: usize, j: usize) -> u64
-    requires { (k < 12) × ((j < 12) × (spacing ≤ 2500)) }
-    ensures { result ≡ gap (k * um spacing) (j * um spacing) }
-{
-    let step = UM_IN_TENTH * spacing as u64;
-    (k as u64 * step).abs_diff(j as u64 * step)
+// An anchor of a closed case, with the direction of the forces on it and on its neighbours, and their characteristic
+// spacing.
+#[derive(Clone, Copy)]
+struct Group<'a> {
+    case: &'a ClosedCase,
+    direction: Direction,
+    spacing: CharacteristicSpacing,
+    anchor: u32,
+    ghost within: { anchor < (closed_case case.now).opening.anchors },
 }
 
-// The weight of the j-th anchor's force on the k-th; its own counts whole.
-fn weight_of(spacing: CharacteristicSpacing, opening: Opening, k: usize, j: usize) -> u64
-    requires { (k < 12) × ((j < 12) × (opening.spacing ≤ 2500)) }
-    ensures { result ≡ weight_on spacing.um opening k j }
-{
-    if j == k {
-        WHOLE
-    } else {
-        spacing.weight(anchors_apart(opening.spacing, k, j))
+impl Group<'_> {
+    // The weight of the force on the j-th anchor; the anchor's own counts whole.
+    fn weight(&self, j: u32) -> u64
+        requires { j < (closed_case self.now.case.now).opening.anchors }
+        ensures { result ≡ weight_on self.now.spacing.um (closed_case self.now.case.now).opening self.now.anchor j }
+    {
+        if j == self.anchor {
+            return WHOLE;
+        }
+        let step = um(self.case.opening().spacing);
+        let distance = (u64::from(self.anchor) * step).abs_diff(u64::from(j) * step);
+        self.spacing.weight(distance)
     }
-}
 
-// The force on the j-th anchor.
-fn force_of(case: &ClosedCase, direction: Direction, j: usize) -> u64
-    requires { j < (closed_case case.now).opening.anchors }
-    ensures value { result ≡ force (closed_case case.now) direction j }
-    ensures small { result ≤ 4000000000 }
-{
-    match case.force(direction, j) {
-        Some(force) => force,
-        None => 0,
+    // What the j-th anchor gives: its weighted force, rounded up.
+    fn part(&self, j: u32) -> u64
+        requires { j < (closed_case self.now.case.now).opening.anchors }
+        ensures { result ≡ part self.now.spacing.um (closed_case self.now.case.now) self.now.direction self.now.anchor j }
+    {
+        let force = self.case.force(self.direction, j as usize).unwrap();
+        div_up(self.weight(j) * force, Divisor { number: WHOLE })
     }
-}
 
-// What the j-th anchor gives the k-th.
-fn part_of(weight: u64, force: u64) -> u64
-    requires { (weight ≤ 1000000) × (force ≤ 4000000000) }
-    ensures value { result ≡ up (weight * force) 1000000 }
-    ensures small { result ≤ weight * force }
-{
-    div_up(weight * force, Divisor { number: WHOLE })
+    // What all anchors give.
+    fn effect(&self) -> u64
+        ensures { result ≡ group_effect self.now.spacing.um (closed_case self.now.case.now) self.now.direction self.now.anchor }
+    {
+        (0..self.case.opening().anchors).map(|j| self.part(j)).sum()
+    }
 }
 
 // The effect in mN on the k-th anchor, from 0, of its own force and its neighbours' weighted ones; none past the last.
@@ -71,29 +65,15 @@ pub fn group_effect(
     ensures never_below { IfSome result (NeverBelowGroup spacing.um spacing.some (closed_case case.now) direction k) }
     ensures hardly_above { IfSome result (HardlyAboveGroup spacing.um spacing.some (closed_case case.now) direction k) }
 {
-    let opening = case.opening();
-    if k >= opening.anchors as usize {
+    let anchor = u32::try_from(k).ok()?;
+    if anchor >= case.opening().anchors {
         return None;
     }
-    Some(sum_of_parts(case, direction, spacing, k))
-}
-
-fn sum_of_parts(
-    case: &ClosedCase,
-    direction: Direction,
-    spacing: CharacteristicSpacing,
-    k: usize,
-) -> u64
-    requires { k < (closed_case case.now).opening.anchors }
-    ensures { result ≡ group_effect spacing.um (closed_case case.now) direction k }
-{
-    let opening = case.opening();
-    let mut sum = 0;
-    for j in 0..opening.anchors as usize {
-        sum += part_of(
-            weight_of(spacing, opening, k, j),
-            force_of(case, direction, j),
-        );
-    }
-    sum
+    let group = Group {
+        case,
+        direction,
+        spacing,
+        anchor,
+    };
+    Some(group.effect())
 }

@@ -1,12 +1,11 @@
 // The characteristic spacing of a group, and the weight of a neighbour at a distance.
-ghost use Rattle.std.specs.Prelude.{◌≡◌, ℕ, ◌+◌, ◌-◌, ◌*◌, ◌<◌, ◌≤◌, MatchOption};
-ghost use Rattle.roots.specs.Division.{up};
-ghost use Rattle.roots.specs.Roots.{root_up_of};
+ghost use Rattle.std.specs.Prelude.{◌≡◌, ◌<◌, ◌≤◌, MatchOption};
 ghost use Rattle.groups.specs.Weights.{weight};
 
 use roots::division::{Divisor, div_up};
 use roots::ratio::Ratio;
 
+// The most that a characteristic spacing is, in µm.
 const MOST_SPACING: u64 = 2_500_000;
 
 // A characteristic spacing in µm, from which on a neighbour has no weight.
@@ -22,10 +21,11 @@ impl CharacteristicSpacing {
     pub fn new(um: u64) -> Option<CharacteristicSpacing>
         ensures { MatchOption result (0 < um → um ≤ 2500000 → ⊥) (λ x. x.um ≡ um) }
     {
-        if um == 0 || um > MOST_SPACING {
-            return None;
+        if (1..=MOST_SPACING).contains(&um) {
+            Some(CharacteristicSpacing { um })
+        } else {
+            None
         }
-        Some(CharacteristicSpacing { um })
     }
 
     // The weight of a neighbour at a distance in µm, in millionths, rounded up.
@@ -35,21 +35,10 @@ impl CharacteristicSpacing {
         if distance >= self.um {
             return 0;
         }
-        let left = self.um - distance;
-        weight_of(
-            left,
-            Ratio {
-                a: left,
-                b: self.um,
-            },
-        )
+        let left = Ratio {
+            a: self.um - distance,
+            b: self.um,
+        };
+        div_up(left.a * left.root_up(), Divisor { number: self.um })
     }
-}
-
-// What is left of the spacing times the root of its ratio to the spacing, over the spacing, up.
-fn weight_of(left: u64, ratio: Ratio) -> u64
-    requires { left ≤ 2500000 }
-    ensures { result ≡ up (left * root_up_of ratio.a ratio.b) ratio.b }
-{
-    div_up(left * ratio.root_up(), Divisor { number: ratio.b })
 }

@@ -2,9 +2,9 @@
 // be at most the exact length, and at most 5 micrometres below it.
 #![tactic(auto)]
 
-ghost use Rattle.std.specs.Prelude.{◌≡◌, ℕ, ◌+◌, ◌-◌, ◌*◌, ◌/◌, ◌^◌, ◌<◌, ◌≤◌, MatchOption};
+ghost use Rattle.std.specs.Prelude.{◌≡◌, ◌+◌, ◌*◌, ◌/◌, ◌^◌, ◌≤◌, MatchOption};
 ghost use Rattle.influence.specs.Exact.{Ends, NotAbove, NotBelow};
-ghost use Rattle.influence.specs.Lengths.{InRange, StepsTo, influence_length};
+ghost use Rattle.influence.specs.Lengths.{InRange, StepsTo, influence_length, spacing_root_of, twentieth_root_of};
 
 use roots::whole::{fifth_root, square_root};
 
@@ -61,7 +61,13 @@ impl Channel {
         ensures wider { 100 * self.now.spacing ≤ result }
         ensures most { result ≤ 1000000 }
     {
-        // each root is the greatest number that fits
+        self.rounded_length()
+    }
+
+    // The steps of the definition: each root is the greatest number that fits.
+    fn rounded_length(&self) -> u64
+        ensures { result ≡ 13 * twentieth_root_of self.now.inertia * spacing_root_of self.now.spacing / 10 ^ 7 }
+    {
         let half_root = square_root(u64::from(self.inertia) * MILLION_SQUARED);
         let quarter_root = square_root(half_root * MILLION);
         let twentieth_root = fifth_root(quarter_root * TEN_MILLION);

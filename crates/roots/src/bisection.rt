@@ -1,5 +1,5 @@
 // The greatest number whose power is at most a number, found by halving.
-ghost use Rattle.std.specs.Prelude.{◌≡◌, ℕ, ◌+◌, ◌-◌, ◌*◌, ◌/◌, ◌^◌, ◌<◌, ◌≤◌, nat_le};
+ghost use Rattle.std.specs.Prelude.{◌≡◌, ℕ, ◌^◌, ◌<◌, ◌≤◌, nat_le};
 ghost use Rattle.roots.specs.Extremes.{Greatest, greatest_of};
 
 // A power of numbers, scaled or rounded on its way: it starts at 0, never falls, and grows past every u64.

@@ -1,5 +1,5 @@
 // The powers that the roots are taken of.
-ghost use Rattle.std.specs.Prelude.{◌≡◌, ℕ, ◌+◌, ◌*◌, ◌/◌, ◌^◌, ◌<◌, ◌≤◌};
+ghost use Rattle.std.specs.Prelude.{◌*◌, ◌^◌, ◌<◌};
 ghost use Rattle.roots.specs.Roots.{fourth};
 ghost use Rattle.std.proofs.Common.{rules};
 ghost use Rattle.roots.specs.Rises.{scaled_square_rises, cube_rises, fifth_rises};

@@ -1,5 +1,5 @@
 // The square root of a ratio that is at most 1, in millionths.
-ghost use Rattle.std.specs.Prelude.{◌≡◌, ℕ, ◌+◌, ◌-◌, ◌*◌, ◌^◌, ◌<◌, ◌≤◌, MatchOption};
+ghost use Rattle.std.specs.Prelude.{◌≡◌, ◌-◌, ◌*◌, ◌^◌, ◌<◌, ◌≤◌, MatchOption};
 ghost use Rattle.roots.specs.Extremes.{Greatest, Least};
 ghost use Rattle.roots.specs.Roots.{root_down_of, root_up_of};
 
@@ -40,7 +40,7 @@ impl Ratio {
         ensures value { result ≡ root_down_of self.now.a self.now.b }
         ensures within { result ≤ 10 ^ 6 }
     {
-        self.scaled_root(self.a * MILLION_SQUARED)
+        self.last_at_most()
     }
 
     // Its square root in millionths, rounded up.
@@ -49,14 +49,22 @@ impl Ratio {
         ensures value { result ≡ root_up_of self.now.a self.now.b }
         ensures within { result ≤ 10 ^ 6 }
     {
-        self.scaled_root(self.a * MILLION_SQUARED - 1) + 1
+        self.last_below() + 1
     }
 
-    // The greatest number whose square times `b` is at most `x`.
-    fn scaled_root(&self, x: u64) -> u64
-        ensures is { Greatest (λ n. n * n * self.now.b ≤ x) result }
+    // The greatest number whose square times `b` is at most `a` times 10^12.
+    fn last_at_most(&self) -> u64
+        ensures is { Greatest (λ n. n * n * self.now.b ≤ self.now.a * 10 ^ 12) result }
+        ensures value { result ≡ root_down_of self.now.a self.now.b }
+    {
+        root(&ScaledSquare { by: self.b }, self.a * MILLION_SQUARED)
+    }
+
+    // The greatest number whose square times `b` is below `a` times 10^12.
+    fn last_below(&self) -> u64
+        ensures is { Greatest (λ n. n * n * self.now.b ≤ self.now.a * 10 ^ 12 - 1) result }
         ensures within { result < 2 ^ 32 }
     {
-        root(&ScaledSquare { by: self.b }, x)
+        root(&ScaledSquare { by: self.b }, self.a * MILLION_SQUARED - 1)
     }
 }

@@ -1,5 +1,5 @@
 // Roots of whole numbers, rounded down.
-ghost use Rattle.std.specs.Prelude.{◌≡◌, ℕ, ◌+◌, ◌*◌, ◌/◌, ◌^◌, ◌<◌, ◌≤◌};
+ghost use Rattle.std.specs.Prelude.{◌≡◌, ◌*◌, ◌^◌, ◌<◌, ◌≤◌};
 ghost use Rattle.roots.specs.Extremes.{Greatest};
 ghost use Rattle.roots.specs.Roots.{cube_root_of, fifth_root_of, fourth, square_root_of};
 

@@ -1,17 +1,17 @@
 // Making a table, placing and lifting bolts, and reading it.
-ghost use Rattle.std.specs.Prelude.{◌≡◌, ◌+◌, ◌-◌, ◌<◌, ◌≤◌, true, ◌⊎◌, length, is_ok, MatchOption, if◌then◌else◌};
+ghost use Rattle.std.specs.Prelude.{◌≡◌, ◌+◌, ◌-◌, ◌≤◌, true, length, is_ok, MatchOption, if◌then◌else◌};
 ghost use Rattle.bolts.specs.Tables.{held, reaches, Made};
 ghost use Rattle.bolts.specs.Bolts.{placed, lifted};
 ghost use Rattle.bolts.specs.Asked.{first_no};
 ghost use Rattle.bolts.specs.Loads.{total_load};
 ghost use Rattle.bolts.specs.Placing.{asked_of_place, asked_of_lift, Joined, Parted};
-ghost use Rattle.bolts.specs.Neighbours.{Nearest, IsGap};
+ghost use Rattle.bolts.specs.Neighbours.{Nearest, IsGap, Nearer};
 
 use crate::bolt::{Bolt, Direction};
 use crate::fault::Fault;
 use crate::refusal::Refusal;
 use crate::table::BoltTable;
-use crate::table::places::{find, is_clear, slot};
+use crate::table::places::{find, is_clear, load_sum, slot};
 use std::alloc::Global;
 
 // The most bolts that a table holds.
@@ -88,11 +88,7 @@ impl BoltTable {
     pub fn nearest(&self, k: usize) -> Option<u32>
         ensures { Nearest (held self.now) k result }
     {
-        match (self.gap_before(k), self.gap_after(k)) {
-            (Some(before), Some(after)) => Some(before.min(after)),
-            (Some(before), None) => Some(before),
-            (None, after) => after,
-        }
+        nearer(self.gap_before(k), self.gap_after(k))
     }
 
     // How far the k-th bolt lies from the one before it; none for the first.
@@ -112,13 +108,21 @@ impl BoltTable {
     }
 
     // The sum of the bolts' loads in a direction, in N.
+    #[tactic(auto, using(crate::proofs::Bounds::table_load))]
     pub fn total_load(&self, direction: Direction) -> u64
         ensures value { result ≡ total_load direction (held self.now) }
         ensures bound { result ≤ 3200000 }
     {
-        self.bolts()
-            .iter()
-            .map(|b| u64::from(b.load(direction)))
-            .sum()
+        load_sum(self.bolts(), direction)
+    }
+}
+
+// The smaller of two distances, or the one that there is.
+fn nearer(before: Option<u32>, after: Option<u32>) -> Option<u32>
+    ensures { Nearer before after result }
+{
+    match (before, after) {
+        (Some(before), Some(after)) => Some(before.min(after)),
+        (before, after) => before.or(after),
     }
 }

@@ -1,9 +1,10 @@
 // The questions on a list of bolts, and the place of a position in it.
 ghost use Rattle.std.specs.Prelude.{◌≡◌, ℕ, ◌<◌, ◌≤◌, length};
 ghost use Rattle.bolts.specs.Bolts.{position_at, Spaced, apart, clear};
+ghost use Rattle.bolts.specs.Loads.{total_load};
 ghost use Rattle.bolts.specs.Placing.{Found};
 
-use crate::bolt::Bolt;
+use crate::bolt::{Bolt, Direction};
 
 // The least distance between bolts, in tenths.
 const CLEARANCE: u32 = 300;
@@ -29,7 +30,7 @@ pub(crate) fn slot(bolts: &[Bolt], position: u32) -> usize
     ensures before { (k : ℕ) → k < result → position_at bolts.now k < position }
     ensures stop { result < length bolts.now → position ≤ position_at bolts.now result }
 {
-    bolts.partition_point(|b| b.position < position)
+    bolts.partition_point(|b| b.lies_before(position))
 }
 
 // The place of the bolt that lies exactly at a position.
@@ -38,4 +39,12 @@ pub(crate) fn find(bolts: &[Bolt], position: u32) -> Option<usize>
     ensures { Found bolts.now position result }
 {
     bolts.binary_search_by_key(&position, |b| b.position).ok()
+}
+
+// The sum of the bolts' loads in a direction, in N.
+pub(crate) fn load_sum(bolts: &[Bolt], direction: Direction) -> u64
+    requires { length bolts.now ≤ 16 }
+    ensures { result ≡ total_load direction bolts.now }
+{
+    bolts.iter().map(|b| u64::from(b.load(direction))).sum()
 }

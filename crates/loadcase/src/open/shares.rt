@@ -1,5 +1,5 @@
 // The forces that the bolts of a case give its anchors, in mN. Lengths in µm.
-ghost use Rattle.std.specs.Prelude.{◌≡◌, ◌+◌, ◌-◌, ◌*◌, ◌<◌, ◌≤◌, Contains};
+ghost use Rattle.std.specs.Prelude.{◌≡◌, ◌-◌, ◌*◌, ◌<◌, Contains};
 ghost use Rattle.bolts.specs.Loads.{load_of};
 ghost use Rattle.forces.specs.Shares.{gap, distances, spread, share};
 ghost use Rattle.forces.specs.Cases.{um, mn, anchor_distances};
@@ -47,8 +47,10 @@ impl OpenCase {
     {
         let place = um(bolt.position);
         let arm = left(self.length + SLACK, place, anchor);
-        let sum = self.spread_at(place);
-        div_up(mn(bolt.load(direction)) * arm, Divisor { number: sum })
+        let spread = Divisor {
+            number: self.spread_at(place),
+        };
+        div_up(mn(bolt.load(direction)) * arm, spread)
     }
 
     // The force on the k-th anchor.

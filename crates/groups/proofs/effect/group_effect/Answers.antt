@@ -1,23 +1,19 @@
-use Rattle.std.proofs.Common.{◌<◌, Some, sym, ap, ◌∙◌, subst, arith}
-use Rattle.std.proofs.lemmas.Bool.{cond-true, lt-ltb}
+use Rattle.std.proofs.Common.{◌≡◌, arith}
+use Rattle.std.proofs.lemmas.Grind.{common_steps}
 use Rattle.loadcase.specs.Closed.{closed_case}
 use Rattle.loadcase.proofs.Validity.{valid_of}
-use Rattle.groups.specs.Groups.{NeverBelowGroup, HardlyAboveGroup}
+use Rattle.groups.specs.Groups.{group_effect}
 use Rattle.groups.proofs.Effects.{effect_covers, effect_near}
 use Rattle.groups.proofs.effect.group_effect.Goals as goal
+use Rattle.groups.proofs.effect.group_effect.Goals.{After-effect}
 
-pub returns : goal.returns
-returns c =
-    let w = c.args.case.now in
-    let k = c.args.k in
-    let d = c.args.direction in
-    let S = c.args.spacing.um in
-    let pos = c.args.spacing.some in
-    let v = valid_of w.within in
-    let here : k < w.within.anchors = omega (arith, ap (λ o. o.anchors) c.opening-opening.ensures, c.if-k-opening.false) in
-    let e = c.sum_of_parts.ensures in
-    record {
-      value = ap Some e ∙ sym (cond-true _ _ _ (lt-ltb k w.within.anchors here));
-      never_below = subst (NeverBelowGroup S pos (closed_case w) d k) (sym e) (effect_covers S pos (closed_case w) d k v);
-      hardly_above = subst (HardlyAboveGroup S pos (closed_case w) d k) (sym e) (effect_near S pos (closed_case w) d k v);
-    }
+is : (c : goal.After-effect) → c.effect.result ≡ group_effect c.args.spacing.um (closed_case c.args.case.now) c.args.direction c.args.k
+is c = grind (arith, common_steps)
+
+pub returns-clause-never_below : goal.returns-clause-never_below
+returns-clause-never_below c =
+    rw (is c) (effect_covers _ c.args.spacing.some (closed_case c.args.case.now) c.args.direction c.args.k (valid_of c.args.case.now.within))
+
+pub returns-clause-hardly_above : goal.returns-clause-hardly_above
+returns-clause-hardly_above c =
+    rw (is c) (effect_near _ c.args.spacing.some (closed_case c.args.case.now) c.args.direction c.args.k (valid_of c.args.case.now.within))

@@ -1,4 +1,4 @@
-use Rattle.std.proofs.Common.{◌≡◌, ℕ, ◌+◌, ◌*◌, ◌/◌, ◌^◌, ◌≤◌, sym, subst, rules}
+use Rattle.std.proofs.Common.{◌≡◌, ℕ, ◌+◌, ◌*◌, ◌≤◌, sym, subst}
 use Rattle.influence.specs.Lengths.{StepsTo, influence_length}
 use Rattle.influence.specs.Exact.{NotAbove, NotBelow}
 use Rattle.influence.proofs.Lengths.{length_steps, length_ends, length_not_above, length_not_below, length_at_least, length_past_spacing, length_at_most}
@@ -10,7 +10,7 @@ returns c =
     let i = c.args.self.now.inertia in
     let s = c.args.self.now.spacing in
     let r = c.args.self.now.in_range in
-    let is : influence_length i s ≡ 13 * c.fifth_root-twentieth_root.result * c.square_root-spacing_root.result / 10 ^ 7 = search rules in
+    let is : influence_length i s ≡ c.rounded_length.result = sym c.rounded_length.ensures in
     record {
       value = sym is;
       steps = subst (λ (l : ℕ). StepsTo i s l) is (length_steps i s r);

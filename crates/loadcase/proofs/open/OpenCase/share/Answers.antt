@@ -8,5 +8,5 @@ overflow_mul-mn c =
     let arm : c.left-arm.result ≤ 1000005 = omega arith in
     omega (arith, mul-le-mul load arm)
 
-pub invariant_of-div_up : goal.invariant_of-div_up
-invariant_of-div_up c = let some = spread_pos c.args.self.now c.args.bolt c.requires in search rules
+pub invariant_of-spread : goal.invariant_of-spread
+invariant_of-spread c = let some = spread_pos c.args.self.now c.args.bolt c.requires in search rules

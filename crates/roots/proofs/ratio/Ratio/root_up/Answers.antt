@@ -9,8 +9,8 @@ pub returns : goal.returns
 returns c =
     let a = c.args.self.now.a in
     let b = c.args.self.now.b in
-    let r = c.scaled_root.result in
-    let g = c.scaled_root.ensures.is in
+    let r = c.last_below.result in
+    let g = c.last_below.ensures.is in
     let under : Greatest (λ n. n * n * b < a * 10 ^ 12) r =
     record { fits = omega (arith, g.fits); most = λ n h. g.most n (omega arith) } in
     let is : Least (λ n. a * 10 ^ 12 ≤ n * n * b) (r + 1) =
