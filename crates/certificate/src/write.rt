@@ -7,8 +7,7 @@ use crate::asking::ask_certificate;
 use crate::draft::{Draft, put};
 use crate::fault::{CertificateFault, Question};
 use crate::fields::{CharacteristicValues, Fields, Geometry, PartialFactors};
-use crate::layout::{GEOMETRY_LENGTH, HEADER_LENGTH, RESISTANCE_LENGTH, SECTIONS};
-use crate::strengths::ENTRY_LENGTH;
+use crate::layout::{ENTRY_LENGTH, GEOMETRY_LENGTH, HEADER_LENGTH, RESISTANCE_LENGTH, SECTIONS};
 
 const RESISTANCE_PLACE: u16 = 42;
 

@@ -1,8 +1,10 @@
 -- The lines of a text, read one by one.
-use Rattle.std.proofs.Common.{◌≡◌, ℕ, ◌+◌, ◌<◌, ◌≤◌, List, [], ◌∷◌, ◌++◌, length, get_or, take, drop, set, Some, None, Option, sym, refl, ap, ◌∙◌, subst, arith}
-use Rattle.std.proofs.lemmas.List.{append_assoc, append-nil, at_drop_more, at_drop_all, take_more_set, take_all, length-take, length-set, drop-drop, length-append}
+use Rattle.std.proofs.Common.{◌≡◌, ℕ, ◌+◌, ◌<◌, ◌≤◌, List, [], ◌∷◌, ◌++◌, map, length, get_or, take, drop, set, Some, None, Option, sym, refl, ap, ◌∙◌, subst, arith}
+use Rattle.std.proofs.lemmas.List.{append_assoc, append-nil, at_drop_more, at_drop_all, take_more_set, take_all, length-take, length-set, drop-drop, length-append, length-map, get_or-map}
 use Rattle.certificate.specs.declared.fields.StrengthFactor.{StrengthFactor}
 use Rattle.certificate_text.specs.Names.{Field, fields, edition}
+use Rattle.certificate_text.specs.Fields.{field_of}
+use Rattle.certificate_text.specs.declared.names.Field as code
 use Rattle.text_pieces.specs.Pieces.{lines}
 use Rattle.certificate_text.specs.Lines.{field_line, entry_line, next, Steps}
 use Rattle.certificate_text.specs.Fronts.{understood_then, front_fields, front_entries, AllRead}
@@ -10,6 +12,13 @@ use Rattle.certificate_text.specs.Fronts.{understood_then, front_fields, front_e
 pub all_fields : length fields ≡ 32
 unfolding fields
 all_fields = refl
+
+-- the code's table has them all, each in its place
+pub all_code : (xs : List code.Field) → map field_of xs ≡ fields → length xs ≡ 32
+all_code xs e = sym (length-map xs field_of) ∙ ap length e ∙ all_fields
+
+pub code_at : (xs : List code.Field) (k : ℕ) (d : code.Field) → map field_of xs ≡ fields → k < length xs → field_of (get_or xs k d) ≡ get_or fields k edition
+code_at xs k d e h = sym (get_or-map field_of xs k d edition h) ∙ ap (λ (fs : List Field). get_or fs k edition) e
 
 -- k fields are read, into the first k of the numbers
 pub record SomeRead (before after numbers : List ℕ) (k : ℕ) : Type 0 where
