@@ -88,18 +88,6 @@ module _ (name before after : List ℕ) (items : List StrengthFactor) (len : ℕ
         shorter = omega (arith, s.shorter refl, inv.shorter);
       }
 
-  -- an entry that is read belongs to the list
-  pub entry_there : (then : List ℕ) (x : StrengthFactor) → Steps (entry_line name) after then (Some x) → 0 < length (front_entries name (lines before))
-  entry_there then x s =
-      let v = (entry_more then x s).values in
-      omega (arith, ap length v, length-append (items ++ x ∷ []) (front_entries name (lines then)), length-append items (x ∷ []))
-
-  pub entries_end : (then : List ℕ) → Steps (entry_line name) after then None → EntriesRead name before then items len × (items ≡ front_entries name (lines before))
-  entries_end then s =
-      let e : front_entries name (lines after) ≡ [] = next_entry name (lines after) ∙ ap (λ (o : Option StrengthFactor). understood_then o (front_entries name (drop 1 (lines after)))) (sym s.says) in
-      let z : then ≡ after = s.stays refl in
-      (subst (λ (t : List ℕ). EntriesRead name before t items len) (sym z) inv, sym (append-nil items) ∙ ap (λ (xs : List StrengthFactor). items ++ xs) (sym e) ∙ inv.values)
-
   pub entries_same : (xs : List StrengthFactor) (n : ℕ) → xs ≡ items → n ≡ len → EntriesRead name before after xs n
   entries_same xs n e z =
       record {
@@ -107,6 +95,3 @@ module _ (name before after : List ℕ) (items : List StrengthFactor) (len : ℕ
         past = inv.past ∙ ap (λ (m : ℕ). drop m (lines before)) (sym z);
         shorter = omega (arith, inv.shorter);
       }
-
-pub entries_start : (name before : List ℕ) → EntriesRead name before before [] 0
-entries_start name before = record { values = refl; past = refl; shorter = omega arith }

@@ -6,9 +6,6 @@ use Rattle.certificate_text.specs.declared.fault.TextFault.TheVariants.{Line}
 use Rattle.certificate_text.proofs.FrontRuns.{all_code, code_at, field_more, field_stop, fields_end}
 use Rattle.certificate_text.proofs.reader.Reader.fixed.Goals as goal
 
-pub loop-k-init : goal.loop-k-init
-loop-k-init c = record { values = refl; past = refl; shorter = omega arith; room = refl }
-
 pub bounds-numbers-k : goal.bounds-numbers-k
 bounds-numbers-k c = omega (arith, all_code c.fields-field-items.result.now c.fields-field-items.ensures)
 
