@@ -1,6 +1,6 @@
 -- The lines of a text, read one by one.
-use Rattle.std.proofs.Common.{◌≡◌, ℕ, ◌+◌, ◌<◌, ◌≤◌, List, [], ◌∷◌, ◌++◌, map, length, get_or, take, drop, set, Some, None, Option, sym, refl, ap, ◌∙◌, subst, arith}
-use Rattle.std.proofs.lemmas.List.{append_assoc, append-nil, at_drop_more, at_drop_all, take_more_set, take_all, length-take, length-set, drop-drop, length-append, length-map, get_or-map}
+use Rattle.std.proofs.Common.{◌≡◌, ℕ, ◌+◌, ◌<◌, ◌≤◌, List, [], ◌∷◌, ◌++◌, map, length, get_or, take, drop, set, Some, None, Option, sym, refl, ap, ◌∙◌, arith}
+use Rattle.std.proofs.lemmas.List.{append_assoc, append-nil, at_drop_more, at_drop_all, take_more_set, take_all, length-take, length-set, drop-drop, length-map, get_or-map}
 use Rattle.certificate.specs.declared.fields.StrengthFactor.{StrengthFactor}
 use Rattle.certificate_text.specs.Names.{Field, fields, edition}
 use Rattle.certificate_text.specs.Fields.{field_of}

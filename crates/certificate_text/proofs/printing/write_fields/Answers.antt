@@ -1,11 +1,7 @@
-use Rattle.std.proofs.Common.{◌≡◌, length, refl, sym, ap, ◌∙◌, arith}
+use Rattle.std.proofs.Common.{◌≡◌, length, refl, ap, arith}
 use Rattle.std.specs.Slice.Iter.{iter_rest}
 use Rattle.std.specs.Iterator.Adapters.{zip_first, zip_second}
-use Rattle.std.proofs.lemmas.List.{append-nil}
-use Rattle.std.proofs.lemmas.Slice.Zip.{Zip-more}
-use Rattle.std.proofs.lemmas.Iterator.{empty_from_Zip}
 use Rattle.certificate_text.proofs.FrontRuns.{all_code}
-use Rattle.certificate_text.proofs.PrintRuns.{line_more}
 use Rattle.certificate_text.proofs.printing.write_fields.Goals as goal
 
 pub loop-field-init : goal.loop-field-init

@@ -1,6 +1,4 @@
-use Rattle.std.proofs.Common.{refl}
-use Rattle.std.proofs.lemmas.Result.{err_from_is_err_and}
-use Rattle.certificate_text.proofs.FrontRuns.{entry_more, entry_there, entries_end, entries_same, entries_start}
+use Rattle.certificate_text.proofs.FrontRuns.{entry_more, entries_same}
 use Rattle.certificate_text.proofs.reader.Reader.list.Goals as goal
 
 pub loop-entry-preserved : goal.loop-entry-preserved
