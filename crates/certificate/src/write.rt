@@ -7,14 +7,16 @@ use crate::asking::ask_certificate;
 use crate::draft::{Draft, put};
 use crate::fault::{CertificateFault, Question};
 use crate::fields::{CharacteristicValues, Fields, Geometry, PartialFactors};
-use crate::layout::{ENTRY_LENGTH, GEOMETRY_LENGTH, HEADER_LENGTH, RESISTANCE_LENGTH, SECTIONS};
+use crate::layout::{
+    ENTRY_LENGTH, GEOMETRY_LENGTH, HEADER_LENGTH, MOST_BYTES, RESISTANCE_LENGTH, SECTIONS,
+};
 
-const RESISTANCE_PLACE: u16 = 42;
+const RESISTANCE_PLACE: u16 = HEADER_LENGTH as u16 + GEOMETRY_LENGTH;
 
-const CRACKED_PLACE: u16 = 102;
+const CRACKED_PLACE: u16 = RESISTANCE_PLACE + RESISTANCE_LENGTH;
 
-// How many entries a file of 4,096 bytes has room for, in both lists together.
-const MOST_ENTRIES: usize = 998;
+// How many entries the longest certificate has room for, in both lists together.
+const MOST_ENTRIES: usize = (MOST_BYTES - CRACKED_PLACE as usize) / ENTRY_LENGTH;
 
 // The pairs of a certificate whose lists have so many entries.
 fn pairs(cracked: usize, uncracked: usize) -> [u16; 8]
