@@ -1,5 +1,5 @@
 -- The first no of questions that come one list after the other.
-use Rattle.std.proofs.Common.{◌≡◌, ℕ, ◌+◌, ◌<◌, ◌≤◌, Bool, true, false, cond, List, [], ◌∷◌, ◌++◌, length, get_or, drop, Ok, Err, Result, sym, refl, ◌∙◌, arith}
+use Rattle.std.proofs.Common.{◌≡◌, ℕ, ◌+◌, ◌<◌, ◌≤◌, Bool, true, false, cond, List, [], ◌∷◌, ◌++◌, length, get_or, drop, Ok, Err, Result, sym, refl, ◌∙◌}
 use Rattle.std.proofs.lemmas.List.{at_drop_more, at_drop_all}
 use Rattle.std.specs.List.{flat_map, AllByRecursion}
 use Rattle.certificate.specs.Asked.{Asked, first_no}
@@ -8,12 +8,9 @@ use Rattle.certificate.specs.declared.fault.CertificateFault.{CertificateFault}
 abbrev Answer : Type 0
 Answer = Result Unit CertificateFault
 
-refused_granted : {P : Type 0} (e : CertificateFault) → ◌≡◌ {A = Answer} (Err e) (Ok tt) → P
-refused_granted e h = let z : ◌≡◌ {A = ℕ} 0 1 = cc in absurd (omega arith)
-
 then_at : (t : Bool) (e : CertificateFault) (x y z : Answer) → (x ≡ Ok tt → y ≡ z) → cond t x (Err e) ≡ Ok tt → cond t y (Err e) ≡ z
 then_at true e x y z ih h = ih h
-then_at false e x y z ih h = refused_granted e h
+then_at false e x y z ih h = cc
 
 -- all yes, and on to the next list
 pub first_no_then : (xs ys : Asked) → first_no xs ≡ Ok tt → first_no (xs ++ ys) ≡ first_no ys
@@ -26,12 +23,12 @@ stop_at false e f x y ih h = h
 
 -- a no in the first list is the refusal
 pub first_no_stop : (xs ys : Asked) (f : CertificateFault) → first_no xs ≡ Err f → first_no (xs ++ ys) ≡ Err f
-first_no_stop [] ys f h = let z : ◌≡◌ {A = ℕ} 0 1 = cc in absurd (omega arith)
+first_no_stop [] ys f h = cc
 first_no_stop (q ∷ xs) ys f h = stop_at q.0 q.1 f (first_no xs) (first_no (xs ++ ys)) (first_no_stop xs ys f) h
 
 yes_at : (t : Bool) (e : CertificateFault) (x : Answer) (P : Type 0) → (x ≡ Ok tt → P) → cond t x (Err e) ≡ Ok tt → (t ≡ true) × P
 yes_at true e x P ih h = (refl, ih h)
-yes_at false e x P ih h = refused_granted e h
+yes_at false e x P ih h = absurd cc
 
 -- no refusal: each question is answered yes
 pub all_yes : (xs : Asked) → first_no xs ≡ Ok tt → AllByRecursion (λ q. q.0 ≡ true) xs

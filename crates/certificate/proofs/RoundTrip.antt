@@ -1,11 +1,9 @@
 -- What is written reads back as what was handed in.
-use Rattle.std.proofs.Common.{All, ◌≡◌, ℕ, zero, suc, ◌+◌, ◌*◌, ◌/◌, ◌%◌, ◌<◌, ◌≤◌, List, [], ◌∷◌, ◌++◌, length, get_or, take, drop, sym, refl, ap, ◌∙◌, arith}
+use Rattle.std.proofs.Common.{◌≡◌, ℕ, ◌+◌, ◌*◌, ◌/◌, ◌%◌, ◌<◌, ◌≤◌, List, [], ◌∷◌, ◌++◌, length, get_or, take, drop, sym, refl, ap, ◌∙◌, arith}
 use Rattle.std.specs.List.{AllByRecursion}
 use Rattle.std.proofs.lemmas.Nat.{shr-shr, div_below}
 use Rattle.std.proofs.lemmas.List.Elements.{recursion_from_All}
-use Rattle.std.proofs.lemmas.List.FromFn.{length-map-range_with_len, get_or-map-range_with_len}
-use Rattle.std.proofs.lemmas.List.{ext_get_or, get_or-append-add, take_at, take_all, drop_at, drop-drop}
-use Rattle.certificate.specs.Bytes.{u16_at}
+use Rattle.std.proofs.lemmas.List.{take_at, take_all, drop_at, drop-drop}
 use Rattle.certificate.specs.Layout.{offset, section_of}
 use Rattle.certificate.specs.Content.{Content, content_of, geometry_of, values_of, factors_of, entry_at, entries}
 use Rattle.certificate.specs.Writing.{written, entry_bytes, list_bytes, geometry_shorts, values_list, factors_list, Fits16, Fits32, EntryFits, Fitting}
@@ -14,6 +12,7 @@ use Rattle.certificate.specs.declared.fields.CharacteristicValues.{Characteristi
 use Rattle.certificate.specs.declared.fields.PartialFactors.{PartialFactors}
 use Rattle.certificate.specs.declared.fields.StrengthFactor.{StrengthFactor}
 use Rattle.certificate.specs.declared.layout.Section.TheVariants as section
+use Rattle.certificate.proofs.EntryLists.{entries_first}
 
 short : (n : ℕ) → Fits16 n → n % 256 + n / 256 % 256 * 256 ≡ n
 short n h = omega arith
@@ -48,40 +47,17 @@ factors_back c fit =
     let (a, (b, (d, (e, (f, (g, (h, (i, (j, (k, z)))))))))) = recursion_from_All Fits16 (factors_list c.factors) fit.factors in
     simp (short _ a, short _ b, short _ d, short _ e, short _ f, short _ g, short _ h, short _ i, short _ j, short _ k) refl
 
--- an entry further on lies four bytes further on
-module _ (x : StrengthFactor) (rest : List ℕ) where
-  beyond : (i j : ℕ) → i ≡ 4 + j → get_or (entry_bytes x ++ rest) i 0 ≡ get_or rest j 0
-  beyond i j e = ap (λ (k : ℕ). get_or (entry_bytes x ++ rest) k 0) e ∙ get_or-append-add (entry_bytes x) rest j 0
-
-  next_number : (i j : ℕ) → i ≡ 4 + j → u16_at (entry_bytes x ++ rest) i ≡ u16_at rest j
-  next_number i j e =
-      let a = beyond i j e in
-      let b = beyond (i + 1) (j + 1) (omega arith) in
-      omega arith
-
-  next_entry : (k : ℕ) → entry_at (entry_bytes x ++ rest) (suc k) ≡ entry_at rest k
-  next_entry k =
-      let a = next_number (4 * suc k) (4 * k) (omega arith) in
-      let b = next_number (4 * suc k + 2) (4 * k + 2) (omega arith) in
-      cc
-
-entry_back : (xs : List StrengthFactor) (k : ℕ) (d : StrengthFactor) → k < length xs → AllByRecursion EntryFits xs → entry_at (list_bytes xs) k ≡ get_or xs k d
-entry_back [] k d h all = absurd (omega arith)
-entry_back (x ∷ xs) zero d h (fit, all) = let a = short x.strength fit.0 in let b = short x.factor fit.1 in simp (a, b) refl
-entry_back (x ∷ xs) (suc k) d h (fit, all) = next_entry x (list_bytes xs) k ∙ entry_back xs k d (omega arith) all
-
 pub length-list : (xs : List StrengthFactor) → length (list_bytes xs) ≡ 4 * length xs
 length-list [] = refl
 length-list (x ∷ xs) = let e = length-list xs in omega arith
 
-entries_back : (xs : List StrengthFactor) → All EntryFits xs → entries (list_bytes xs) ≡ xs
-entries_back xs all =
-    let d : StrengthFactor = record { strength = 0; factor = 0 } in
-    let n : ℕ = length (list_bytes xs) / 4 in
-    let many : n ≡ length xs = omega (arith, length-list xs) in
-    let f : ℕ → StrengthFactor = entry_at (list_bytes xs) in
-    let long : length (entries (list_bytes xs)) ≡ length xs = length-map-range_with_len f 0 n ∙ many in
-    ext_get_or d (entries (list_bytes xs)) xs long (λ i h. let g : i < n = omega arith in let k : i < length xs = omega arith in get_or-map-range_with_len f 0 n i i d g (omega arith) ∙ entry_back xs i d k (recursion_from_All EntryFits xs all))
+entries_back : (xs : List StrengthFactor) → AllByRecursion EntryFits xs → entries (list_bytes xs) ≡ xs
+entries_back [] all = refl
+entries_back (x ∷ xs) (fit, all) =
+    let a = short x.strength fit.0 in
+    let b = short x.factor fit.1 in
+    let e : entry_at (entry_bytes x) 0 ≡ x = simp (a, b) refl in
+    entries_first (entry_bytes x) (list_bytes xs) refl ∙ ap (λ (y : StrengthFactor). y ∷ entries (list_bytes xs)) e ∙ ap (λ (ys : List StrengthFactor). x ∷ ys) (entries_back xs all)
 
 first_byte : (c : Content) → get_or (written c) 0 0 ≡ c.edition
 unfolding written
@@ -118,6 +94,6 @@ module _ (c : Content) (few : length c.cracked ≤ 1000) (few' : length c.uncrac
   unfolding content_of
   content_back fit =
       let bs : List ℕ = written c in
-      let k = ap entries cracked_part ∙ entries_back c.cracked fit.cracked in
-      let u = ap entries uncracked_part ∙ entries_back c.uncracked fit.uncracked in
+      let k = ap entries cracked_part ∙ entries_back c.cracked (recursion_from_All EntryFits c.cracked fit.cracked) in
+      let u = ap entries uncracked_part ∙ entries_back c.uncracked (recursion_from_All EntryFits c.uncracked fit.uncracked) in
       same_content (first_byte c) (geometry_back c fit) (values_back c fit) (factors_back c fit) k u

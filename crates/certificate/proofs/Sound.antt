@@ -11,7 +11,7 @@ use Rattle.certificate.specs.Reading.{refusal, numbers_asked, strengths_asked}
 use Rattle.certificate.specs.Strengths.{strength_at, factor_at, entry_asked, list_asked}
 use Rattle.certificate.specs.Lookup.{list_section}
 use Rattle.certificate.specs.Content.{edition_of, geometry_of, values_of, factors_of}
-use Rattle.certificate.specs.Editions.{edition_named}
+use Rattle.certificate.specs.Editions.{edition_byte, edition_named}
 use Rattle.certificate.specs.Ranges.{Between, GeometryInRange, ValuesInRange, FactorsInRange, ListInRange}
 use Rattle.certificate.specs.declared.layout.Section.{Section}
 use Rattle.certificate.specs.declared.layout.Section.TheVariants.{Geometry, Resistance, Cracked, Uncracked}
@@ -19,44 +19,38 @@ use Rattle.certificate.specs.declared.lookup.Concrete.{Concrete}
 use Rattle.certificate.specs.declared.lookup.Concrete.TheVariants as concrete
 use Rattle.certificate.proofs.Firsts.{all_yes}
 
+abbrev AllYes : Asked → Type 0
+AllYes qs = AllByRecursion (λ q. q.0 ≡ true) qs
+
 -- the questions of a list that begins with others
-back : (xs ys : Asked) → AllByRecursion (λ q. q.0 ≡ true) (xs ++ ys) → AllByRecursion (λ q. q.0 ≡ true) xs × AllByRecursion (λ q. q.0 ≡ true) ys
+back : (xs ys : Asked) → AllYes (xs ++ ys) → AllYes xs × AllYes ys
 back [] ys h = (tt, h)
 back (x ∷ xs) ys (h, t) = let p = back xs ys t in ((h, p.0), p.1)
 
-between : (least most n : ℕ) → allowed (two 0 least most) n ≡ true → Between least most n
-between least most n h =
-    let p : (leb least n && leb n most) ≡ true = grind (arith, nat_tests) in
-    let q = and_parts (leb least n) (leb n most) p in
-    record { from = leb-true least n q.0; to = leb-true n most q.1 }
+between : (least most n : ℕ) → (leb least n && leb n most) ≡ true → Between least most n
+between least most n h = let q = and_parts (leb least n) (leb n most) h in record { from = leb-true least n q.0; to = leb-true n most q.1 }
+
+allowed_between : (least most n : ℕ) → allowed (two 0 least most) n ≡ true → Between least most n
+allowed_between least most n h = between least most n (grind (arith, nat_tests))
 
 between_or_zero : (least most n : ℕ) → allowed (four_or_zero 0 least most) n ≡ true → Between least most n ⊎ (n ≡ 0)
 between_or_zero least most n h =
-    elim (or_cases (leb least n && leb n most) (true && eqb n 0) h) [
-      | inl p ↦ let q = and_parts (leb least n) (leb n most) p in inl (record { from = leb-true least n q.0; to = leb-true n most q.1 })
-      | inr p ↦ inr (eqb-true n 0 p)
-    ]
+    elim (or_cases (leb least n && leb n most) (true && eqb n 0) h) [ inl p ↦ inl (between least most n p) | inr p ↦ inr (eqb-true n 0 p) ]
 
--- the questions on the layout were all answered yes
-layout : (bs : List ℕ) → refusal bs ≡ Ok tt → AllByRecursion (λ q. q.0 ≡ true) (layout_asked bs)
-unfolding refusal
-layout bs h =
-    let all = all_yes (header_asked bs ++ (layout_asked bs ++ (numbers_asked bs ++ strengths_asked bs))) h in
-    (back (layout_asked bs) (numbers_asked bs ++ strengths_asked bs) (back (header_asked bs) (layout_asked bs ++ (numbers_asked bs ++ strengths_asked bs)) all).1).0
+-- a certificate that was read answered every question with yes
+record Answered (bs : List ℕ) : Type 0 where
+  header : AllYes (header_asked bs)
+  layout : AllYes (layout_asked bs)
+  numbers : AllYes (numbers_asked bs)
+  lists : AllYes (strengths_asked bs)
 
--- and those on the lists
-lists : (bs : List ℕ) → refusal bs ≡ Ok tt → AllByRecursion (λ q. q.0 ≡ true) (strengths_asked bs)
+answered : (bs : List ℕ) → refusal bs ≡ Ok tt → Answered bs
 unfolding refusal
-lists bs h =
-    let all = all_yes (header_asked bs ++ (layout_asked bs ++ (numbers_asked bs ++ strengths_asked bs))) h in
-    (back (numbers_asked bs) (strengths_asked bs) (back (layout_asked bs) (numbers_asked bs ++ strengths_asked bs) (back (header_asked bs) (layout_asked bs ++ (numbers_asked bs ++ strengths_asked bs)) all).1).1).1
-
--- the questions on the numbers were all answered yes
-numbers : (bs : List ℕ) → refusal bs ≡ Ok tt → AllByRecursion (λ q. q.0 ≡ true) (numbers_asked bs)
-unfolding refusal
-numbers bs h =
-    let all = all_yes (header_asked bs ++ (layout_asked bs ++ (numbers_asked bs ++ strengths_asked bs))) h in
-    (back (numbers_asked bs) (strengths_asked bs) (back (layout_asked bs) (numbers_asked bs ++ strengths_asked bs) (back (header_asked bs) (layout_asked bs ++ (numbers_asked bs ++ strengths_asked bs)) all).1).1).0
+answered bs h =
+    let a = back (header_asked bs) (layout_asked bs ++ (numbers_asked bs ++ strengths_asked bs)) (all_yes (header_asked bs ++ (layout_asked bs ++ (numbers_asked bs ++ strengths_asked bs))) h) in
+    let b = back (layout_asked bs) (numbers_asked bs ++ strengths_asked bs) a.1 in
+    let c = back (numbers_asked bs) (strengths_asked bs) b.1 in
+    record { header = a.0; layout = b.0; numbers = c.0; lists = c.1 }
 
 abbrev geometry_asked : List ℕ → Asked
 geometry_asked bs = fields_asked (offset bs Geometry) (section_of bs Geometry) geometry_rules
@@ -67,32 +61,36 @@ resistance_asked bs = fields_asked (offset bs Resistance) (section_of bs Resista
 abbrev ratios : List ℕ → Asked
 ratios bs = ratios_asked (offset bs Geometry) (section_of bs Geometry)
 
--- a certificate that was read names an edition
+-- it names an edition
 pub names_edition : (bs : List ℕ) → refusal bs ≡ Ok tt → edition_named (slice_index bs 0) ≡ Ok (edition_of bs)
-unfolding refusal
 names_edition bs h =
-    let all = all_yes (header_asked bs ++ (layout_asked bs ++ (numbers_asked bs ++ strengths_asked bs))) h in
-    let one : (eqb (slice_index bs 0) 1 || eqb (slice_index bs 0) 2) ≡ true = all.1.0 in
+    let one : (eqb (slice_index bs 0) 1 || eqb (slice_index bs 0) 2) ≡ true = (answered bs h).header.1.0 in
+    grind (arith, nat_tests)
+
+-- and is rated by the edition that it names
+pub edition_kept : (bs : List ℕ) → refusal bs ≡ Ok tt → edition_byte (edition_of bs) ≡ slice_index bs 0
+edition_kept bs h =
+    let one : (eqb (slice_index bs 0) 1 || eqb (slice_index bs 0) 2) ≡ true = (answered bs h).header.1.0 in
     grind (arith, nat_tests)
 
 pub geometry_in_range : (bs : List ℕ) → refusal bs ≡ Ok tt → GeometryInRange (geometry_of (section_of bs Geometry))
 unfolding geometry_rules
 geometry_in_range bs h =
-    let n = back (geometry_asked bs) (resistance_asked bs ++ ratios bs) (numbers bs h) in
+    let n = back (geometry_asked bs) (resistance_asked bs ++ ratios bs) (answered bs h).numbers in
     let (a, (b, (c, (d, (e, (f, (g, (i, (j, (k, (l, z))))))))))) = n.0 in
     let r = (back (resistance_asked bs) (ratios bs) n.1).1 in
     record {
-      depth = between _ _ _ a;
-      width = between _ _ _ b;
-      height = between _ _ _ c;
-      cone_cracked = between _ _ _ d;
-      cone_uncracked = between _ _ _ e;
-      edge_cracked = between _ _ _ f;
-      edge_uncracked = between _ _ _ g;
-      pryout = between _ _ _ i;
-      lip_tension = between _ _ _ j;
-      lip_shear = between _ _ _ k;
-      inertia = between _ _ _ l;
+      depth = allowed_between _ _ _ a;
+      width = allowed_between _ _ _ b;
+      height = allowed_between _ _ _ c;
+      cone_cracked = allowed_between _ _ _ d;
+      cone_uncracked = allowed_between _ _ _ e;
+      edge_cracked = allowed_between _ _ _ f;
+      edge_uncracked = allowed_between _ _ _ g;
+      pryout = allowed_between _ _ _ i;
+      lip_tension = allowed_between _ _ _ j;
+      lip_shear = allowed_between _ _ _ k;
+      inertia = allowed_between _ _ _ l;
       flat = leb-true _ _ r.0;
       narrow = leb-true _ _ r.1.0;
     }
@@ -100,17 +98,17 @@ geometry_in_range bs h =
 pub values_in_range : (bs : List ℕ) → refusal bs ≡ Ok tt → ValuesInRange (values_of (section_of bs Resistance))
 unfolding resistance_rules
 values_in_range bs h =
-    let n = back (geometry_asked bs) (resistance_asked bs ++ ratios bs) (numbers bs h) in
+    let n = back (geometry_asked bs) (resistance_asked bs ++ ratios bs) (answered bs h).numbers in
     let (a, (b, (c, (d, (e, (f, (g, (i, (j, (k, z)))))))))) = (back (resistance_asked bs) (ratios bs) n.1).0 in
     record {
-      anchor = between _ _ _ a;
-      connection = between _ _ _ b;
-      lip = between _ _ _ c;
-      bolt = between _ _ _ d;
-      flexure = between _ _ _ e;
-      pullout = between _ _ _ f;
-      bolt_shear = between _ _ _ g;
-      lip_shear = between _ _ _ i;
+      anchor = allowed_between _ _ _ a;
+      connection = allowed_between _ _ _ b;
+      lip = allowed_between _ _ _ c;
+      bolt = allowed_between _ _ _ d;
+      flexure = allowed_between _ _ _ e;
+      pullout = allowed_between _ _ _ f;
+      bolt_shear = allowed_between _ _ _ g;
+      lip_shear = allowed_between _ _ _ i;
       anchor_shear = between_or_zero _ _ _ j;
       connection_shear = between_or_zero _ _ _ k;
     }
@@ -118,38 +116,35 @@ values_in_range bs h =
 pub factors_in_range : (bs : List ℕ) → refusal bs ≡ Ok tt → FactorsInRange (factors_of (section_of bs Resistance))
 unfolding resistance_rules
 factors_in_range bs h =
-    let n = back (geometry_asked bs) (resistance_asked bs ++ ratios bs) (numbers bs h) in
+    let n = back (geometry_asked bs) (resistance_asked bs ++ ratios bs) (answered bs h).numbers in
     let (p, (q, (r, (s, (t, (u, (v, (w, (x, (y, rest)))))))))) = (back (resistance_asked bs) (ratios bs) n.1).0 in
     let (a, (b, (c, (d, (e, (f, (g, (i, (j, (k, z)))))))))) = rest in
     record {
-      anchor = between _ _ _ a;
-      connection = between _ _ _ b;
-      lip = between _ _ _ c;
-      bolt = between _ _ _ d;
-      flexure = between _ _ _ e;
-      bolt_shear = between _ _ _ f;
-      lip_shear = between _ _ _ g;
-      anchor_shear = between _ _ _ i;
-      connection_shear = between _ _ _ j;
-      concrete = between _ _ _ k;
+      anchor = allowed_between _ _ _ a;
+      connection = allowed_between _ _ _ b;
+      lip = allowed_between _ _ _ c;
+      bolt = allowed_between _ _ _ d;
+      flexure = allowed_between _ _ _ e;
+      bolt_shear = allowed_between _ _ _ f;
+      lip_shear = allowed_between _ _ _ g;
+      anchor_shear = allowed_between _ _ _ i;
+      connection_shear = allowed_between _ _ _ j;
+      concrete = allowed_between _ _ _ k;
     }
 
 -- the questions of one item among those of all
-each_joined : {X : Type 0} (f : X → Asked) (xs : List X) (k : ℕ) (d : X) → k < length xs → AllByRecursion (λ q. q.0 ≡ true) (flat_map f xs) → AllByRecursion (λ q. q.0 ≡ true) (f (get_or xs k d))
+each_joined : {X : Type 0} (f : X → Asked) (xs : List X) (k : ℕ) (d : X) → k < length xs → AllYes (flat_map f xs) → AllYes (f (get_or xs k d))
 each_joined f [] k d h all = absurd (omega arith)
 each_joined f (x ∷ xs) zero d h all = (back (f x) (flat_map f xs) all).0
 each_joined f (x ∷ xs) (suc k) d h all = each_joined f xs k d (omega arith) (back (f x) (flat_map f xs) all).1
 
 -- what the questions of a list say of its entries
-module _ (place : ℕ) (bs : List ℕ) (all : AllByRecursion (λ q. q.0 ≡ true) (list_asked place bs)) where
-  asked_at : (k : ℕ) → k < length bs / 4 → AllByRecursion (λ q. q.0 ≡ true) (entry_asked place bs k)
+module _ (place : ℕ) (bs : List ℕ) (all : AllYes (list_asked place bs)) where
+  asked_at : (k : ℕ) → k < length bs / 4 → AllYes (entry_asked place bs k)
   asked_at k h =
       let n : ℕ = length bs / 4 in
       let e : get_or (range_with_len 0 n) k 0 ≡ k = omega (arith, get_or-range_with_len 0 n k 0 h) in
-      subst (λ (j : ℕ). AllByRecursion (λ q. q.0 ≡ true) (entry_asked place bs j)) e (each_joined (entry_asked place bs) (range_with_len 0 n) k 0 (omega (arith, length-range_with_len 0 n)) all)
-
-  in_range : (least most n : ℕ) → (leb least n && leb n most) ≡ true → Between least most n
-  in_range least most n h = let q = and_parts (leb least n) (leb n most) h in record { from = leb-true least n q.0; to = leb-true n most q.1 }
+      subst (λ (j : ℕ). AllYes (entry_asked place bs j)) e (each_joined (entry_asked place bs) (range_with_len 0 n) k 0 (omega (arith, length-range_with_len 0 n)) all)
 
   above : (k : ℕ) → suc k < length bs / 4 → strength_at bs k < strength_at bs (suc k)
   above k h =
@@ -171,16 +166,16 @@ module _ (place : ℕ) (bs : List ℕ) (all : AllByRecursion (λ q. q.0 ≡ true
     whole = omega arith;
     some = omega arith;
     few = omega arith;
-    strengths = λ k h. in_range 12 75 (strength_at bs k) (asked_at k h).0;
+    strengths = λ k h. between 12 75 (strength_at bs k) (asked_at k h).0;
     rising = rise;
-    factors = λ k h. in_range 20 400 (factor_at bs k) (asked_at k h).1.1.0;
+    factors = λ k h. between 20 400 (factor_at bs k) (asked_at k h).1.1.0;
   }
 
 -- a section that ends inside the file is as long as its pair says
 length_section : (bs : List ℕ) (s : Section) → section_end bs s ≤ length bs → length (section_of bs s) ≡ size bs s
 length_section bs s h = simp (length-take, length-drop) (omega arith)
 
-list_at : (bs : List ℕ) (s : Section) → section_end bs s ≤ length bs → (leb 4 (size bs s) && leb (size bs s) 256 && eqb (size bs s % 4) 0) ≡ true → AllByRecursion (λ q. q.0 ≡ true) (list_asked (offset bs s) (section_of bs s)) → ListInRange (section_of bs s)
+list_at : (bs : List ℕ) (s : Section) → section_end bs s ≤ length bs → (leb 4 (size bs s) && leb (size bs s) 256 && eqb (size bs s % 4) 0) ≡ true → AllYes (list_asked (offset bs s) (section_of bs s)) → ListInRange (section_of bs s)
 list_at bs s within right all =
     let e = length_section bs s within in
     let p = and_parts (leb 4 (size bs s) && leb (size bs s) 256) (eqb (size bs s % 4) 0) right in
@@ -189,8 +184,8 @@ list_at bs s within right all =
 
 pub list_in_range : (bs : List ℕ) (concrete : Concrete) → refusal bs ≡ Ok tt → ListInRange (section_of bs (list_section concrete))
 list_in_range bs concrete.Cracked h =
-    let (a, (b, (c, (d, (e, (f, (g, (within, (right, rest))))))))) = layout bs h in
-    list_at bs Cracked (leb-true _ _ within) right (back (list_asked (offset bs Cracked) (section_of bs Cracked)) (list_asked (offset bs Uncracked) (section_of bs Uncracked)) (lists bs h)).0
+    let (a, (b, (c, (d, (e, (f, (g, (within, (right, rest))))))))) = (answered bs h).layout in
+    list_at bs Cracked (leb-true _ _ within) right (back (list_asked (offset bs Cracked) (section_of bs Cracked)) (list_asked (offset bs Uncracked) (section_of bs Uncracked)) (answered bs h).lists).0
 list_in_range bs concrete.Uncracked h =
-    let (a, (b, (c, (d, (e, (f, (g, (i, (j, (k, (within, (right, rest)))))))))))) = layout bs h in
-    list_at bs Uncracked (leb-true _ _ within) right (back (list_asked (offset bs Cracked) (section_of bs Cracked)) (list_asked (offset bs Uncracked) (section_of bs Uncracked)) (lists bs h)).1
+    let (a, (b, (c, (d, (e, (f, (g, (i, (j, (k, (within, (right, rest)))))))))))) = (answered bs h).layout in
+    list_at bs Uncracked (leb-true _ _ within) right (back (list_asked (offset bs Cracked) (section_of bs Cracked)) (list_asked (offset bs Uncracked) (section_of bs Uncracked)) (answered bs h).lists).1

@@ -1,5 +1,5 @@
 -- How long a written certificate is, and what is asked of it.
-use Rattle.std.proofs.Common.{◌≡◌, ℕ, ◌+◌, ◌*◌, ◌<◌, cond, leb, [], ◌∷◌, ◌++◌, length, Ok, Err, arith, length-append}
+use Rattle.std.proofs.Common.{◌≡◌, ℕ, ◌+◌, ◌*◌, ◌<◌, cond, leb, [], ◌∷◌, length, Ok, Err, arith, length-append}
 use Rattle.std.proofs.lemmas.Bool.{cond-false, and_right, lt-leb}
 use Rattle.certificate.specs.Asked.{fault}
 use Rattle.certificate.specs.Reading.{refusal, certificate_asked}

@@ -7,7 +7,6 @@ use crate::bytes::u16_at;
 use crate::fault::{CertificateFault, Question};
 use crate::fields::Edition;
 use crate::part::Part;
-use crate::strengths::ENTRY_LENGTH;
 
 pub const HEADER_LENGTH: usize = 18;
 
@@ -18,6 +17,9 @@ pub const SECTIONS: u8 = 4;
 pub(crate) const GEOMETRY_LENGTH: u16 = 24;
 
 pub(crate) const RESISTANCE_LENGTH: u16 = 60;
+
+// The bytes of an entry of a list: two of strength, two of factor.
+pub const ENTRY_LENGTH: usize = 4;
 
 const LEAST_LIST: u16 = 4;
 

@@ -14,6 +14,7 @@ pub mod fault;
 pub mod fields;
 pub mod layout;
 pub mod lookup;
+pub mod numbers;
 pub mod part;
 mod rules;
 mod strengths;

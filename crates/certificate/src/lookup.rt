@@ -5,8 +5,7 @@ ghost use Rattle.certificate.specs.Lookup.{chosen_list, list_section, FirstAt, T
 
 use crate::bytes::u16_at;
 use crate::fields::StrengthFactor;
-use crate::layout::Section;
-use crate::strengths::ENTRY_LENGTH;
+use crate::layout::{ENTRY_LENGTH, Section};
 
 // The state of the concrete, which chooses the list.
 #[derive(Clone, Copy)]

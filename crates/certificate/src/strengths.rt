@@ -5,10 +5,8 @@ ghost use Rattle.certificate.specs.Strengths.{strength_at, factor_at, entry_aske
 
 use crate::bytes::u16_at;
 use crate::fault::{CertificateFault, Question};
+use crate::layout::ENTRY_LENGTH;
 use crate::part::Part;
-
-// The bytes of an entry: two of strength, two of factor.
-pub const ENTRY_LENGTH: usize = 4;
 
 const LEAST_STRENGTH: u16 = 12;
 

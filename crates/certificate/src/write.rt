@@ -1,21 +1,23 @@
 // Writing a certificate into a lent buffer.
 ghost use Rattle.std.specs.Prelude.{◌≡◌, ◌+◌, ◌*◌, ◌<◌, ◌≤◌, length};
 ghost use Rattle.certificate.specs.Drafts.{drafted};
-ghost use Rattle.certificate.specs.Writing.{content, pairs, geometry_shorts, values_list, factors_list, written, Wrote, Fitting};
+ghost use Rattle.certificate.specs.Writing.{content, pairs, written, Wrote, Fitting};
 
 use crate::asking::ask_certificate;
 use crate::draft::{Draft, put};
 use crate::fault::{CertificateFault, Question};
-use crate::fields::{CharacteristicValues, Fields, Geometry, PartialFactors};
-use crate::layout::{GEOMETRY_LENGTH, HEADER_LENGTH, RESISTANCE_LENGTH, SECTIONS};
-use crate::strengths::ENTRY_LENGTH;
+use crate::fields::Fields;
+use crate::layout::{
+    ENTRY_LENGTH, GEOMETRY_LENGTH, HEADER_LENGTH, MOST_BYTES, RESISTANCE_LENGTH, SECTIONS,
+};
+use crate::numbers::{factors_list, geometry_shorts, values_list};
 
-const RESISTANCE_PLACE: u16 = 42;
+const RESISTANCE_PLACE: u16 = HEADER_LENGTH as u16 + GEOMETRY_LENGTH;
 
-const CRACKED_PLACE: u16 = 102;
+const CRACKED_PLACE: u16 = RESISTANCE_PLACE + RESISTANCE_LENGTH;
 
-// How many entries a file of 4,096 bytes has room for, in both lists together.
-const MOST_ENTRIES: usize = 998;
+// How many entries the longest certificate has room for, in both lists together.
+const MOST_ENTRIES: usize = (MOST_BYTES - CRACKED_PLACE as usize) / ENTRY_LENGTH;
 
 // The pairs of a certificate whose lists have so many entries.
 fn pairs(cracked: usize, uncracked: usize) -> [u16; 8]
@@ -33,57 +35,6 @@ fn pairs(cracked: usize, uncracked: usize) -> [u16; 8]
         cracked,
         CRACKED_PLACE + cracked,
         uncracked,
-    ]
-}
-
-fn geometry_shorts(geometry: &Geometry) -> [u16; 10]
-    ensures { result ≡ geometry_shorts geometry.now }
-{
-    [
-        geometry.embedment_depth,
-        geometry.channel_width,
-        geometry.channel_height,
-        geometry.cone_factor_cracked,
-        geometry.cone_factor_uncracked,
-        geometry.edge_factor_cracked,
-        geometry.edge_factor_uncracked,
-        geometry.pryout_factor,
-        geometry.lip_spacing_tension,
-        geometry.lip_spacing_shear,
-    ]
-}
-
-fn values_list(values: &CharacteristicValues) -> [u32; 10]
-    ensures { result ≡ values_list values.now }
-{
-    [
-        values.anchor,
-        values.connection,
-        values.lip,
-        values.bolt,
-        values.flexure,
-        values.pullout,
-        values.bolt_shear,
-        values.lip_shear,
-        values.anchor_shear,
-        values.connection_shear,
-    ]
-}
-
-fn factors_list(factors: &PartialFactors) -> [u16; 10]
-    ensures { result ≡ factors_list factors.now }
-{
-    [
-        factors.anchor,
-        factors.connection,
-        factors.lip,
-        factors.bolt,
-        factors.flexure,
-        factors.bolt_shear,
-        factors.lip_shear,
-        factors.anchor_shear,
-        factors.connection_shear,
-        factors.concrete,
     ]
 }
 

@@ -1,12 +1,11 @@
 // The line that the table has for an answer of the reader.
 use certificate::certificate::Certificate;
 use certificate::fault::CertificateFault;
-use certificate::fields::{CharacteristicValues, Edition, Geometry, PartialFactors};
-use certificate::layout::Section;
-use certificate::lookup::entry_of;
+use certificate::fields::StrengthFactor;
+use certificate::layout::{ENTRY_LENGTH, Section};
+use certificate::lookup::entry_in;
+use certificate::numbers::{factors_list, geometry_shorts, values_list};
 use std::fmt;
-
-const ENTRY_LENGTH: usize = 4;
 
 // `refused QUESTION BYTE`, or `ok` and every number in the order of the file.
 #[derive(Drop)]
@@ -29,19 +28,21 @@ fn write_certificate<W: fmt::Write>(
     found: &Certificate<'_>,
     f: &mut fmt::Formatter<W>,
 ) -> fmt::Result {
-    let edition = match found.edition() {
-        Edition::First => 1u8,
-        Edition::Second => 2u8,
-    };
+    let edition = u8::from(found.edition());
     write!(f, "ok {edition}")?;
-    write_numbers(&geometry_numbers(found.geometry()), f)?;
-    write_numbers(&value_numbers(found.values()), f)?;
-    write_numbers(&factor_numbers(found.factors()), f)?;
+    let geometry = found.geometry();
+    write_numbers(&geometry_shorts(&geometry), f)?;
+    write_numbers(&[geometry.moment_of_inertia], f)?;
+    write_numbers(&values_list(&found.values()), f)?;
+    write_numbers(&factors_list(&found.factors()), f)?;
     write_list(found.section(Section::Cracked).bytes, f)?;
     write_list(found.section(Section::Uncracked).bytes, f)
 }
 
-fn write_numbers<W: fmt::Write>(numbers: &[u32], f: &mut fmt::Formatter<W>) -> fmt::Result {
+fn write_numbers<N: fmt::Display, W: fmt::Write>(
+    numbers: &[N],
+    f: &mut fmt::Formatter<W>,
+) -> fmt::Result {
     for number in numbers {
         write!(f, " {number}")?;
     }
@@ -49,60 +50,11 @@ fn write_numbers<W: fmt::Write>(numbers: &[u32], f: &mut fmt::Formatter<W>) -> f
 }
 
 fn write_list<W: fmt::Write>(list: &[u8], f: &mut fmt::Formatter<W>) -> fmt::Result {
-    let count = list.len() / ENTRY_LENGTH;
+    let entries = list.chunks_exact(ENTRY_LENGTH).map(entry_in);
+    let count = entries.len();
     write!(f, " {count}")?;
-    for k in 0..count {
-        if let Some(entry) = entry_of(list, k) {
-            let strength = entry.strength;
-            let factor = entry.factor;
-            write!(f, " {strength} {factor}")?;
-        }
+    for StrengthFactor { strength, factor } in entries {
+        write!(f, " {strength} {factor}")?;
     }
     Ok(())
-}
-
-fn geometry_numbers(geometry: Geometry) -> [u32; 11] {
-    [
-        u32::from(geometry.embedment_depth),
-        u32::from(geometry.channel_width),
-        u32::from(geometry.channel_height),
-        u32::from(geometry.cone_factor_cracked),
-        u32::from(geometry.cone_factor_uncracked),
-        u32::from(geometry.edge_factor_cracked),
-        u32::from(geometry.edge_factor_uncracked),
-        u32::from(geometry.pryout_factor),
-        u32::from(geometry.lip_spacing_tension),
-        u32::from(geometry.lip_spacing_shear),
-        geometry.moment_of_inertia,
-    ]
-}
-
-fn value_numbers(values: CharacteristicValues) -> [u32; 10] {
-    [
-        values.anchor,
-        values.connection,
-        values.lip,
-        values.bolt,
-        values.flexure,
-        values.pullout,
-        values.bolt_shear,
-        values.lip_shear,
-        values.anchor_shear,
-        values.connection_shear,
-    ]
-}
-
-fn factor_numbers(factors: PartialFactors) -> [u32; 10] {
-    [
-        u32::from(factors.anchor),
-        u32::from(factors.connection),
-        u32::from(factors.lip),
-        u32::from(factors.bolt),
-        u32::from(factors.flexure),
-        u32::from(factors.bolt_shear),
-        u32::from(factors.lip_shear),
-        u32::from(factors.anchor_shear),
-        u32::from(factors.connection_shear),
-        u32::from(factors.concrete),
-    ]
 }

@@ -89,15 +89,17 @@ mod tests {
         }
     }
 
+    fn refused(question: Question, byte: usize) -> Result<usize, CertificateFault> {
+        Err(CertificateFault { question, byte })
+    }
+
     #[test]
     fn writes_the_worked_certificate(rt: HostRuntime) -> Result<(), Fail> {
         let mut buffer = [0xee; 112];
         assert_eq!(rt; write(&worked(), &mut buffer)?, 110);
-        for k in 0..110 {
-            assert_eq!(rt; buffer[k], WORKED[k]);
-        }
-        assert_eq!(rt; buffer[110], 0xee);
-        assert_eq!(rt; buffer[111], 0xee);
+        let (written, rest) = buffer.split_at(110);
+        assert_eq!(rt; written, WORKED.as_slice());
+        assert_eq!(rt; rest, [0xee, 0xee].as_slice());
         Ok(())
     }
 
@@ -115,54 +117,26 @@ mod tests {
     #[test]
     fn refuses_what_it_may_not_write(rt: HostRuntime) {
         let mut short = [7; 109];
-        assert_eq!(rt;
-            write(&worked(), &mut short),
-            Err(CertificateFault {
-                question: Question::Buffer,
-                byte: 0,
-            })
-        );
+        assert_eq!(rt; write(&worked(), &mut short), refused(Question::Buffer, 0));
         let mut buffer = [7; 256];
         let empty = Fields {
             cracked: &[],
             ..worked()
         };
-        assert_eq!(rt;
-            write(&empty, &mut buffer),
-            Err(CertificateFault {
-                question: Question::Layout,
-                byte: 10,
-            })
-        );
+        assert_eq!(rt; write(&empty, &mut buffer), refused(Question::Layout, 10));
         let third = Fields {
             edition: 3,
             ..worked()
         };
-        assert_eq!(rt;
-            write(&third, &mut buffer),
-            Err(CertificateFault {
-                question: Question::Header,
-                byte: 0,
-            })
-        );
+        assert_eq!(rt; write(&third, &mut buffer), refused(Question::Header, 0));
         let long = [CRACKED[0]; 999];
         let longest = Fields {
             uncracked: &long,
             ..worked()
         };
-        assert_eq!(rt;
-            write(&longest, &mut buffer),
-            Err(CertificateFault {
-                question: Question::Header,
-                byte: 0,
-            })
-        );
-        for k in 0..109 {
-            assert_eq!(rt; short[k], 7);
-        }
-        for k in 0..256 {
-            assert_eq!(rt; buffer[k], 7);
-        }
+        assert_eq!(rt; write(&longest, &mut buffer), refused(Question::Header, 0));
+        assert_eq!(rt; short, [7; 109]);
+        assert_eq!(rt; buffer, [7; 256]);
     }
 
     #[test]

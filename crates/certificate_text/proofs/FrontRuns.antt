@@ -1,8 +1,10 @@
 -- The lines of a text, read one by one.
-use Rattle.std.proofs.Common.{◌≡◌, ℕ, ◌+◌, ◌<◌, ◌≤◌, List, [], ◌∷◌, ◌++◌, length, get_or, take, drop, set, Some, None, Option, sym, refl, ap, ◌∙◌, subst, arith}
-use Rattle.std.proofs.lemmas.List.{append_assoc, append-nil, at_drop_more, at_drop_all, take_more_set, take_all, length-take, length-set, drop-drop, length-append}
+use Rattle.std.proofs.Common.{◌≡◌, ℕ, ◌+◌, ◌<◌, ◌≤◌, List, [], ◌∷◌, ◌++◌, map, length, get_or, take, drop, set, Some, None, Option, sym, refl, ap, ◌∙◌, arith}
+use Rattle.std.proofs.lemmas.List.{append_assoc, append-nil, at_drop_more, at_drop_all, take_more_set, take_all, length-take, length-set, drop-drop, length-map, get_or-map}
 use Rattle.certificate.specs.declared.fields.StrengthFactor.{StrengthFactor}
 use Rattle.certificate_text.specs.Names.{Field, fields, edition}
+use Rattle.certificate_text.specs.Fields.{field_of}
+use Rattle.certificate_text.specs.declared.names.Field as code
 use Rattle.text_pieces.specs.Pieces.{lines}
 use Rattle.certificate_text.specs.Lines.{field_line, entry_line, next, Steps}
 use Rattle.certificate_text.specs.Fronts.{understood_then, front_fields, front_entries, AllRead}
@@ -10,6 +12,13 @@ use Rattle.certificate_text.specs.Fronts.{understood_then, front_fields, front_e
 pub all_fields : length fields ≡ 32
 unfolding fields
 all_fields = refl
+
+-- the code's table has them all, each in its place
+pub all_code : (xs : List code.Field) → map field_of xs ≡ fields → length xs ≡ 32
+all_code xs e = sym (length-map xs field_of) ∙ ap length e ∙ all_fields
+
+pub code_at : (xs : List code.Field) (k : ℕ) (d : code.Field) → map field_of xs ≡ fields → k < length xs → field_of (get_or xs k d) ≡ get_or fields k edition
+code_at xs k d e h = sym (get_or-map field_of xs k d edition h) ∙ ap (λ (fs : List Field). get_or fs k edition) e
 
 -- k fields are read, into the first k of the numbers
 pub record SomeRead (before after numbers : List ℕ) (k : ℕ) : Type 0 where
@@ -79,18 +88,6 @@ module _ (name before after : List ℕ) (items : List StrengthFactor) (len : ℕ
         shorter = omega (arith, s.shorter refl, inv.shorter);
       }
 
-  -- an entry that is read belongs to the list
-  pub entry_there : (then : List ℕ) (x : StrengthFactor) → Steps (entry_line name) after then (Some x) → 0 < length (front_entries name (lines before))
-  entry_there then x s =
-      let v = (entry_more then x s).values in
-      omega (arith, ap length v, length-append (items ++ x ∷ []) (front_entries name (lines then)), length-append items (x ∷ []))
-
-  pub entries_end : (then : List ℕ) → Steps (entry_line name) after then None → EntriesRead name before then items len × (items ≡ front_entries name (lines before))
-  entries_end then s =
-      let e : front_entries name (lines after) ≡ [] = next_entry name (lines after) ∙ ap (λ (o : Option StrengthFactor). understood_then o (front_entries name (drop 1 (lines after)))) (sym s.says) in
-      let z : then ≡ after = s.stays refl in
-      (subst (λ (t : List ℕ). EntriesRead name before t items len) (sym z) inv, sym (append-nil items) ∙ ap (λ (xs : List StrengthFactor). items ++ xs) (sym e) ∙ inv.values)
-
   pub entries_same : (xs : List StrengthFactor) (n : ℕ) → xs ≡ items → n ≡ len → EntriesRead name before after xs n
   entries_same xs n e z =
       record {
@@ -98,6 +95,3 @@ module _ (name before after : List ℕ) (items : List StrengthFactor) (len : ℕ
         past = inv.past ∙ ap (λ (m : ℕ). drop m (lines before)) (sym z);
         shorter = omega (arith, inv.shorter);
       }
-
-pub entries_start : (name before : List ℕ) → EntriesRead name before before [] 0
-entries_start name before = record { values = refl; past = refl; shorter = omega arith }

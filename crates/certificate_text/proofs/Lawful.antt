@@ -1,18 +1,17 @@
 -- The numbers of a certificate that was read fit the text's fields.
-use Rattle.std.proofs.Common.{◌≡◌, ℕ, ◌+◌, ◌*◌, ◌/◌, ◌<◌, ◌≤◌, Bool, true, false, cond, ◌||◌, eqb, ◌⊎◌, List, [], ◌∷◌, map, length, get_or, Ok, Err, Result, sym, refl, ap, ◌∙◌, ⊎_elim, arith, lit<, lit≤}
+use Rattle.std.proofs.Common.{◌≡◌, ℕ, ◌+◌, ◌*◌, ◌/◌, ◌<◌, ◌≤◌, ◌⊎◌, List, [], ◌∷◌, map, length, Ok, refl, ap, ◌∙◌, ⊎_elim, arith, lit<, lit≤}
 use Rattle.std.specs.List.{range_with_len, AllByRecursion}
-use Rattle.std.proofs.lemmas.Bool.{or_cases, eqb-true, ne_eqb, cond-true, cond-false}
 use Rattle.certificate.specs.Content.{content_of, edition_of, geometry_of, values_of, factors_of, entry_at, entries}
 use Rattle.certificate.specs.Layout.{section_of}
 use Rattle.certificate.specs.declared.layout.Section.TheVariants as section
 use Rattle.certificate.specs.Ranges.{GeometryInRange, ValuesInRange, FactorsInRange, Value}
 use Rattle.certificate.specs.Reading.{refusal}
-use Rattle.certificate.specs.declared.fault.CertificateFault.{CertificateFault}
 use Rattle.certificate.specs.declared.fields.Edition.{Edition}
 use Rattle.certificate.specs.declared.fields.Edition.TheVariants.{First, Second}
 use Rattle.certificate.specs.declared.fields.Geometry.{Geometry}
 use Rattle.certificate.specs.declared.fields.CharacteristicValues.{CharacteristicValues}
 use Rattle.certificate.specs.declared.fields.PartialFactors.{PartialFactors}
+use Rattle.certificate.proofs.Sound.{edition_kept}
 use Rattle.certificate_text.specs.Names.{table}
 use Rattle.certificate_text.specs.Printed.{numbers_from, edition_number, rated_content, text_of, Bytes}
 use Rattle.certificate_text.specs.Parsed.{parsed}
@@ -49,29 +48,11 @@ small_each bs (k ∷ ks) b = (small_entry bs k b, small_each bs ks b)
 pub small_entries : (bs : List ℕ) → Bytes bs → AllByRecursion Small (entries bs)
 small_entries bs b = small_each bs (range_with_len 0 (length bs / 4)) b
 
-yes_at : (t : Bool) (x : Result Unit CertificateFault) (e : CertificateFault) → cond t x (Err e) ≡ Ok tt → (t ≡ true) × (x ≡ Ok tt)
-yes_at true x e h = (refl, h)
-yes_at false x e h = let z : ◌≡◌ {A = ℕ} 0 1 = cc in absurd (omega arith)
-
-edition_one : (bs : List ℕ) → refusal bs ≡ Ok tt → (eqb (get_or bs 0 0) 1 || eqb (get_or bs 0 0) 2) ≡ true
-unfolding refusal
-edition_one bs h = (yes_at _ _ _ (yes_at _ _ _ h).1).0
-
-edition_same : (bs : List ℕ) → refusal bs ≡ Ok tt → edition_number (edition_of bs) ≡ get_or bs 0 0
-edition_same bs h =
-    ⊎_elim
-    (λ (a : eqb (get_or bs 0 0) 1 ≡ true). ap edition_number (cond-true _ _ _ a) ∙ sym (eqb-true (get_or bs 0 0) 1 a))
-    (λ (b : eqb (get_or bs 0 0) 2 ≡ true).
-    let z : get_or bs 0 0 ≡ 2 = eqb-true (get_or bs 0 0) 2 b in
-    let n : (get_or bs 0 0 ≡ 1 → ⊥) = λ y. omega arith in
-    ap edition_number (cond-false _ _ _ (ne_eqb (get_or bs 0 0) 1 n)) ∙ sym z)
-    (or_cases (eqb (get_or bs 0 0) 1) (eqb (get_or bs 0 0) 2) (edition_one bs h))
-
 -- a certificate that was read is rated by the edition that it names
 pub rated_same : (bs : List ℕ) → refusal bs ≡ Ok tt → rated_content bs ≡ content_of bs
 unfolding rated_content content_of
 rated_same bs h =
-    ap (λ (n : ℕ). record { edition = n; geometry = (content_of bs).geometry; values = (content_of bs).values; factors = (content_of bs).factors; cracked = (content_of bs).cracked; uncracked = (content_of bs).uncracked }) (edition_same bs h)
+    ap (λ (n : ℕ). record { edition = n; geometry = (content_of bs).geometry; values = (content_of bs).values; factors = (content_of bs).factors; cracked = (content_of bs).cracked; uncracked = (content_of bs).uncracked }) (edition_kept bs h)
 
 -- the text of a certificate that was read parses back to its content
 pub printed_back : (bs : List ℕ) → refusal bs ≡ Ok tt → GeometryInRange (geometry_of (section_of bs section.Geometry)) → ValuesInRange (values_of (section_of bs section.Resistance)) → FactorsInRange (factors_of (section_of bs section.Resistance)) → Bytes (section_of bs section.Cracked) → Bytes (section_of bs section.Uncracked) → parsed (text_of (rated_content bs)) ≡ Ok (content_of bs)

@@ -29,16 +29,9 @@ two_words s bs =
     ap (λ (ws : List (List ℕ)). two_numbers (s ∷ ws)) g ∙ both_none (bounded 65535 s) ∙ sym (ap (λ (o : Option ℕ). both (bounded 65535 s) (at_most 65535 o)) (no_number bs k h e)))
     (splits bs)
 
--- the first word is the name, or not
+-- the first word is the name
 pub same_name : (name w : List ℕ) (ws : List (List ℕ)) → w ≡ name → after_name name (w ∷ ws) ≡ ws
 same_name name w ws e = cond-true _ _ _ ((bytes_eq-Decides w name).1 e)
-
-other_at : (t : Bool) (ws : List (List ℕ)) → (t ≡ true → ⊥) → cond t ws [] ≡ []
-other_at true ws h = absurd (h refl)
-other_at false ws h = refl
-
-pub other_name : (name w : List ℕ) (ws : List (List ℕ)) → (w ≡ name → ⊥) → after_name name (w ∷ ws) ≡ []
-other_name name w ws h = other_at (bytes_eq w name) ws (λ t. h ((bytes_eq-Decides w name).0 t))
 
 -- no word follows a line's only word
 pub no_more : (name w : List ℕ) → after_name name (w ∷ []) ≡ []

@@ -1,4 +1,5 @@
 pub mod Names
+pub mod Fields
 pub mod Lines
 pub mod Fronts
 pub mod Content

@@ -3,7 +3,7 @@ use Rattle.std.specs.Prelude.{ℕ, ◌<◌, List, [], ◌∷◌, ◌++◌, drop,
 use Rattle.std.specs.List.{flat_map}
 use Rattle.certificate.specs.Content.{Content, content_of, edition_of}
 use Rattle.certificate.specs.declared.fields.Edition.{Edition}
-use Rattle.certificate.specs.declared.fields.Edition.TheVariants.{First, Second}
+use Rattle.certificate.specs.Editions.{edition_byte}
 use Rattle.certificate.specs.declared.fields.Geometry.{Geometry}
 use Rattle.certificate.specs.declared.fields.CharacteristicValues.{CharacteristicValues}
 use Rattle.certificate.specs.declared.fields.PartialFactors.{PartialFactors}
@@ -71,8 +71,7 @@ text_of c =
     ++ (list_text (codes "cracked") c.cracked ++ list_text (codes "uncracked") c.uncracked)
 
 abbrev pub edition_number : Edition → ℕ
-edition_number First = 1
-edition_number Second = 2
+edition_number e = edition_byte e
 
 -- the content of a certificate, with the edition by which it is rated
 unfoldable pub rated_content : List ℕ → Content

@@ -1,4 +1,5 @@
-// The numbers of the fixed lines, under the names of the certificate.
+// The numbers of the fixed lines, under the names of the certificate. `as` loses nothing: each line was asked for a
+// number that fits its field.
 ghost use Rattle.std.specs.Prelude.{◌≡◌};
 ghost use Rattle.certificate_text.specs.Content.{geometry_from, values_from, factors_from};
 ghost use Rattle.certificate_text.specs.Names.{Fitting};

@@ -1,6 +1,7 @@
 // The lines that every text has, in their order: the name, and the largest number that the field holds.
-ghost use Rattle.std.specs.Prelude.{◌≡◌, ◌<◌, slice_index_or};
-ghost use Rattle.certificate_text.specs.Names.{table, edition};
+ghost use Rattle.std.specs.Prelude.{◌≡◌, map};
+ghost use Rattle.certificate_text.specs.Names.{fields};
+ghost use Rattle.certificate_text.specs.Fields.{field_of};
 
 pub(crate) const FIELDS: usize = 32;
 
@@ -10,54 +11,59 @@ const U16: u32 = 65_535;
 
 const U32: u32 = 4_294_967_295;
 
-const MOSTS: [u32; FIELDS] = [
-    U8, U16, U16, U16, U16, U16, U16, U16, U16, U16, U16, U32, U32, U32, U32, U32, U32, U32, U32,
-    U32, U32, U32, U16, U16, U16, U16, U16, U16, U16, U16, U16, U16,
-];
-
-pub(crate) fn name_of(k: usize) -> &'static str
-    requires { k < 32 }
-    ensures { result.now ≡ (slice_index_or table k edition).name }
-{
-    match k {
-        0 => "edition",
-        1 => "embedment_depth",
-        2 => "channel_width",
-        3 => "channel_height",
-        4 => "cone_factor_cracked",
-        5 => "cone_factor_uncracked",
-        6 => "edge_factor_cracked",
-        7 => "edge_factor_uncracked",
-        8 => "pryout_factor",
-        9 => "lip_spacing_tension",
-        10 => "lip_spacing_shear",
-        11 => "moment_of_inertia",
-        12 => "value_anchor",
-        13 => "value_connection",
-        14 => "value_lip",
-        15 => "value_bolt",
-        16 => "value_flexure",
-        17 => "value_pullout",
-        18 => "value_bolt_shear",
-        19 => "value_lip_shear",
-        20 => "value_anchor_shear",
-        21 => "value_connection_shear",
-        22 => "factor_anchor",
-        23 => "factor_connection",
-        24 => "factor_lip",
-        25 => "factor_bolt",
-        26 => "factor_flexure",
-        27 => "factor_bolt_shear",
-        28 => "factor_lip_shear",
-        29 => "factor_anchor_shear",
-        30 => "factor_connection_shear",
-        _ => "factor_concrete",
-    }
+// A field's name and the largest number that it holds.
+#[derive(Clone, Copy)]
+pub(crate) struct Field {
+    pub(crate) name: &'static str,
+    pub(crate) most: u32,
 }
 
-pub(crate) fn most_of(k: usize) -> u32
-    requires { k < 32 }
-    ensures { result ≡ (slice_index_or table k edition).most }
+macro_rules! field {
+    ($name:literal, $most:ident) => {
+        Field {
+            name: $name,
+            most: $most,
+        }
+    };
+}
+
+const TABLE: [Field; FIELDS] = [
+    field!("edition", U8),
+    field!("embedment_depth", U16),
+    field!("channel_width", U16),
+    field!("channel_height", U16),
+    field!("cone_factor_cracked", U16),
+    field!("cone_factor_uncracked", U16),
+    field!("edge_factor_cracked", U16),
+    field!("edge_factor_uncracked", U16),
+    field!("pryout_factor", U16),
+    field!("lip_spacing_tension", U16),
+    field!("lip_spacing_shear", U16),
+    field!("moment_of_inertia", U32),
+    field!("value_anchor", U32),
+    field!("value_connection", U32),
+    field!("value_lip", U32),
+    field!("value_bolt", U32),
+    field!("value_flexure", U32),
+    field!("value_pullout", U32),
+    field!("value_bolt_shear", U32),
+    field!("value_lip_shear", U32),
+    field!("value_anchor_shear", U32),
+    field!("value_connection_shear", U32),
+    field!("factor_anchor", U16),
+    field!("factor_connection", U16),
+    field!("factor_lip", U16),
+    field!("factor_bolt", U16),
+    field!("factor_flexure", U16),
+    field!("factor_bolt_shear", U16),
+    field!("factor_lip_shear", U16),
+    field!("factor_anchor_shear", U16),
+    field!("factor_connection_shear", U16),
+    field!("factor_concrete", U16),
+];
+
+pub(crate) fn fields() -> &'static [Field]
+    ensures { map field_of result.now ≡ fields }
 {
-    MOSTS[k]
+    &TABLE
 }

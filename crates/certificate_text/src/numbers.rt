@@ -5,35 +5,26 @@ ghost use Rattle.certificate_text.specs.Printed.{edition_number, numbers_from};
 use crate::names::FIELDS;
 use certificate::fields::{CharacteristicValues, Edition, Geometry, PartialFactors};
 
-pub(crate) fn edition_number(edition: Edition) -> u32
-    ensures { result ≡ edition_number edition }
-{
-    match edition {
-        Edition::First => 1,
-        Edition::Second => 2,
-    }
-}
-
 pub(crate) fn numbers_from(
-    edition: u32,
+    edition: Edition,
     g: Geometry,
     v: CharacteristicValues,
     f: PartialFactors,
 ) -> [u32; FIELDS]
-    ensures { result ≡ numbers_from edition g v f }
+    ensures { result ≡ numbers_from (edition_number edition) g v f }
 {
     [
-        edition,
-        g.embedment_depth as u32,
-        g.channel_width as u32,
-        g.channel_height as u32,
-        g.cone_factor_cracked as u32,
-        g.cone_factor_uncracked as u32,
-        g.edge_factor_cracked as u32,
-        g.edge_factor_uncracked as u32,
-        g.pryout_factor as u32,
-        g.lip_spacing_tension as u32,
-        g.lip_spacing_shear as u32,
+        u32::from(u8::from(edition)),
+        u32::from(g.embedment_depth),
+        u32::from(g.channel_width),
+        u32::from(g.channel_height),
+        u32::from(g.cone_factor_cracked),
+        u32::from(g.cone_factor_uncracked),
+        u32::from(g.edge_factor_cracked),
+        u32::from(g.edge_factor_uncracked),
+        u32::from(g.pryout_factor),
+        u32::from(g.lip_spacing_tension),
+        u32::from(g.lip_spacing_shear),
         g.moment_of_inertia,
         v.anchor,
         v.connection,
@@ -45,15 +36,15 @@ pub(crate) fn numbers_from(
         v.lip_shear,
         v.anchor_shear,
         v.connection_shear,
-        f.anchor as u32,
-        f.connection as u32,
-        f.lip as u32,
-        f.bolt as u32,
-        f.flexure as u32,
-        f.bolt_shear as u32,
-        f.lip_shear as u32,
-        f.anchor_shear as u32,
-        f.connection_shear as u32,
-        f.concrete as u32,
+        u32::from(f.anchor),
+        u32::from(f.connection),
+        u32::from(f.lip),
+        u32::from(f.bolt),
+        u32::from(f.flexure),
+        u32::from(f.bolt_shear),
+        u32::from(f.lip_shear),
+        u32::from(f.anchor_shear),
+        u32::from(f.connection_shear),
+        u32::from(f.concrete),
     ]
 }

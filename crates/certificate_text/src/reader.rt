@@ -1,23 +1,14 @@
 // Reading a text line by line.
-ghost use Rattle.std.specs.Prelude.{◌≡◌, ◌<◌, slice_index_or};
-ghost use Rattle.certificate_text.specs.Names.{fields, edition};
+ghost use Rattle.certificate_text.specs.Fields.{field_of};
 ghost use Rattle.certificate_text.specs.Lines.{field_line, entry_line, Steps};
 ghost use Rattle.certificate_text.specs.Fronts.{Fixed, Listed};
 
 use crate::fault::TextFault;
 use crate::line::{entry_in, field_in};
-use crate::names::{FIELDS, most_of, name_of};
+use crate::names::{FIELDS, Field, fields};
 use certificate::fields::StrengthFactor;
 use std::alloc::Global;
 use text_pieces::pieces::cut_line;
-
-// The number of the k-th field in its line.
-fn number_of(line: &[u8], k: usize) -> Option<u32>
-    requires { k < 32 }
-    ensures { result ≡ field_line (slice_index_or fields k edition) line.now }
-{
-    field_in(line, name_of(k), most_of(k))
-}
 
 // What is left of the text.
 #[derive(Drop)]
@@ -26,13 +17,12 @@ pub(crate) struct Reader<'a> {
 }
 
 impl<'a> Reader<'a> {
-    // The number of the k-th field, where the next line is that field's.
-    fn field(&mut self, k: usize) -> Option<u32>
-        requires { k < 32 }
-        ensures { Steps (field_line (slice_index_or fields k edition)) self.old.rest.now self.new.rest.now result }
+    // The number of the field, where the next line is that field's.
+    fn field(&mut self, field: &Field) -> Option<u32>
+        ensures { Steps (field_line (field_of field.now)) self.old.rest.now self.new.rest.now result }
     {
         let cut = cut_line(self.rest)?;
-        let number = number_of(cut.line, k)?;
+        let number = field_in(cut.line, field)?;
         self.rest = cut.rest;
         Some(number)
     }
@@ -52,11 +42,8 @@ impl<'a> Reader<'a> {
         ensures { Fixed self.old.rest.now self.new.rest.now result }
     {
         let mut numbers = [0; FIELDS];
-        for k in 0..FIELDS {
-            match self.field(k) {
-                Some(number) => numbers[k] = number,
-                None => return Err(TextFault::Line(k + 1)),
-            }
+        for (k, field) in fields().iter().enumerate() {
+            numbers[k] = self.field(field).ok_or(TextFault::Line(k + 1))?;
         }
         Ok(numbers)
     }

@@ -1,5 +1,5 @@
 -- What comes of a text, and of a certificate's bytes.
-use Rattle.std.specs.Prelude.{◌≡◌, ℕ, List, Ok, Err, vec_items, string_bytes, Result, Vec, String}
+use Rattle.std.specs.Prelude.{◌≡◌, ℕ, Bool, true, false, List, Ok, Err, vec_items, string_bytes, Result, Vec, String}
 use Rattle.std.specs.declared.alloc.Global.{Global}
 use Rattle.certificate.specs.Content.{Content, reading}
 use Rattle.certificate.specs.Writing.{written, writing_refusal}
@@ -23,3 +23,10 @@ Shows bytes (Ok shown) = (c : Content) × (reading bytes ≡ Ok c) × (string_by
 Shows bytes (Err (Text e)) = ⊥
 Shows bytes (Err (Refused e)) = reading bytes ≡ Err e
 Shows bytes (Err Memory) = (c : Content) × (reading bytes ≡ Ok c)
+
+-- a fault that is no refusal is no answer
+abbrev pub is_failure : Result (String Global) ToolFault → Bool
+is_failure (Ok shown) = false
+is_failure (Err (Text e)) = true
+is_failure (Err (Refused e)) = false
+is_failure (Err Memory) = true

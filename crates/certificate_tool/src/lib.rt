@@ -8,15 +8,14 @@ ghost use Rattle.certificate_tool.specs.Outcomes.{Makes, Shows};
 
 use crate::fault::ToolFault;
 use certificate::certificate::Certificate;
+use certificate::layout::MOST_BYTES;
 use certificate::write::write;
 use certificate_text::parsing::parse;
 use certificate_text::printing::print;
 use std::alloc::Global;
 
 pub mod fault;
-
-// The longest file that a certificate may be.
-const MOST_BYTES: usize = 4096;
+pub mod telling;
 
 // The bytes of the certificate that a text describes.
 pub fn make(heap: Global, text: &[u8]) -> Result<Vec<u8>, ToolFault>
@@ -25,7 +24,7 @@ pub fn make(heap: Global, text: &[u8]) -> Result<Vec<u8>, ToolFault>
     let parsed = parse(heap, text)?;
     let mut buffer = [0; MOST_BYTES];
     let length = write(&parsed.fields(), &mut buffer)?;
-    Ok(Vec::from_slice(heap, &buffer[0..length])?)
+    Ok(Vec::from_slice(heap, &buffer[..length])?)
 }
 
 // The text of the certificate in these bytes.

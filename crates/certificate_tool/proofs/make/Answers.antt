@@ -1,4 +1,4 @@
-use Rattle.std.proofs.Common.{◌≡◌, ℕ, ◌-◌, List, ◌++◌, length, take, drop, Ok, sym, ap, ◌∙◌, arith}
+use Rattle.std.proofs.Common.{◌≡◌, ℕ, ◌-◌, List, ◌++◌, length, take, drop, Ok, sym, ap, ◌∙◌}
 use Rattle.std.proofs.lemmas.List.{take_at}
 use Rattle.certificate.specs.Content.{Content, reading}
 use Rattle.certificate.specs.Writing.{content, written}
@@ -14,6 +14,5 @@ returns c =
     let k : Content = content c.fields.result in
     let w = c.in_ok-length.ensures in
     let said : k ≡ content_in c.in_ok-parsed.parsed = c.fields.ensures in
-    let all : c.in_ok-length.length - 0 ≡ c.in_ok-length.length = omega arith in
-    let is = c.in_ok-from_slice.ensures.items ∙ ap (λ (m : ℕ). take m c.write.new.buffer) all ∙ front (written k) _ c.write.new.buffer c.in_ok-length.length w.1 w.3 in
+    let is = c.in_ok-from_slice.ensures.items ∙ front (written k) _ c.write.new.buffer c.in_ok-length.length w.1 w.3 in
     (k, c.in_ok-parsed.ensures ∙ ap Ok (sym said), is, ap reading is ∙ w.4)

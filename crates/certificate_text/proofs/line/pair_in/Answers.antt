@@ -16,15 +16,15 @@ pair c =
 pub returns-in_err-factor : goal.returns-in_err-factor
 returns-in_err-factor c =
     let p = pair (goal.at.returns-in_err-factor c).In_ok-rest in
-    let e = sym c.bounded_in.ensures ∙ c.in_ok-strength.was in
-    let f = sym c.bounded_in-2.ensures ∙ c.in_err-factor.was in
+    let e = sym c.short_in.ensures ∙ c.in_ok-strength.was in
+    let f = sym c.short_in-2.ensures ∙ c.in_err-factor.was in
     let g : both (Some c.in_ok-strength.strength) None ≡ None = refl in
     c.from_residual-in_err-factor.ensures ∙ sym (p ∙ cc)
 
 pub returns : goal.returns
 returns c =
     let p = pair (goal.at.returns c).In_ok-rest in
-    let e = sym c.bounded_in.ensures ∙ c.in_ok-strength.was in
-    let f = sym c.bounded_in-2.ensures ∙ c.in_ok-factor.was in
+    let e = sym c.short_in.ensures ∙ c.in_ok-strength.was in
+    let f = sym c.short_in-2.ensures ∙ c.in_ok-factor.was in
     let g : both (Some c.in_ok-strength.strength) (Some c.in_ok-factor.factor) ≡ Some (record { strength = c.in_ok-strength.strength; factor = c.in_ok-factor.factor }) = refl in
     sym (p ∙ cc)
