@@ -1,2 +1,1 @@
 mod Scripting
-mod Begins

@@ -1,7 +1,7 @@
 // Running a job.
-ghost use Rattle.std.specs.Prelude.{◌≡◌, [], ◌∷◌, Some, MatchResult};
+ghost use Rattle.std.specs.Prelude.{◌≡◌, [], ◌∷◌, Some, IfOk, MatchResult};
 ghost use Rattle.job_text.specs.declared.line.JobLine.TheVariants.{Site};
-ghost use Rattle.job.specs.declared.fault.JobFault.TheVariants.{Refused, Memory};
+ghost use Rattle.job.specs.declared.fault.JobFault.TheVariants.{Refused};
 ghost use Rattle.job.specs.declared.fault.JobRefusal.TheVariants.{Line};
 ghost use Rattle.job.specs.Jobs.{WithoutSite, RatedBy, RanAs, Ran};
 
@@ -15,7 +15,7 @@ use certificate::certificate::Certificate;
 use job_text::line::JobLine;
 use rating::prepared::Prepared;
 use site::numbers::SiteNumbers;
-use std::alloc::Global;
+use std::alloc::{AllocError, Global};
 
 // The numbers of the site, which the first line says.
 fn first_site(first: Option<JobLine>) -> Result<SiteNumbers, JobFault>
@@ -32,12 +32,12 @@ fn rated(
     heap: Global,
     prepared: &Prepared,
     lines: &[Option<JobLine>],
-) -> Result<Vec<Outcome>, JobFault>
-    ensures { MatchResult result (λ v. RatedBy prepared.now lines.now v.items) (λ e. e ≡ Memory) }
+) -> Result<Vec<Outcome>, AllocError>
+    ensures { IfOk result (λ v. RatedBy prepared.now lines.now v.items) }
 {
     let calls = script_of(heap, lines)?;
     let answers = answers_on(heap, prepared, &calls)?;
-    Ok(outcomes_of(heap, lines, &answers)?)
+    outcomes_of(heap, lines, &answers)
 }
 
 // The outcomes of a job whose lines say this.
@@ -55,7 +55,7 @@ fn run_said(
     };
     let site = first_site(*first)?;
     let prepared = Prepared::new(certificate, site)?;
-    rated(heap, &prepared, lines)
+    Ok(rated(heap, &prepared, lines)?)
 }
 
 // The outcomes of a job, line by line. A refused certificate or a refused first line ends it.

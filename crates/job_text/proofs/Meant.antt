@@ -14,7 +14,7 @@ use Rattle.text_pieces.proofs.Frees.{Free}
 use Rattle.text_pieces.proofs.WordRuns.{some_word, words_of}
 use Rattle.text_pieces.proofs.Written.{decimal_back, free_plain, words_spaced, free_number, plain}
 use Rattle.job_text.specs.Counted.{ahead, numbers_in, exactly}
-use Rattle.job_text.specs.Lines.{site_of, bolt_of, site_line, place_line, lift_line, rate_line, said_by, said, job_line}
+use Rattle.job_text.specs.Lines.{site_of, bolt_of, said_by, said, job_line}
 use Rattle.job_text.specs.Written.{name_of, numbers_of, Says, printed, Small}
 use Rattle.job_text.specs.declared.line.JobLine.{JobLine}
 use Rattle.job_text.specs.declared.line.JobLine.TheVariants.{Site, Place, Lift, Rate}
@@ -77,24 +77,20 @@ meant w ws j name n make t e named numbered =
     let b : numbers_of j ≡ ns = ap numbers_of (sym m) ∙ numbered ns ∙ sym (items ns n l) in
     ((bytes_eq-Decides w name).0 t ∙ sym a, v ∙ ap Some (sym b))
 
+-- a name that is asked for, or one of those asked for after it
+asked : (w : List ℕ) (ws : List (List ℕ)) (j : JobLine) (name : List ℕ) (n : ℕ) (make : List ℕ → JobLine) (rest : Option JobLine) → ((ns : List ℕ) → name_of (make ns) ≡ name) → ((ns : List ℕ) → numbers_of (make ns) ≡ map (λ k. get_or ns k 0) (range_with_len 0 n)) → (rest ≡ Some j → Meant w ws j) → cond (bytes_eq w name) (option_map make (exactly n ws)) rest ≡ Some j → Meant w ws j
+asked w ws j name n make rest named numbered others e =
+    ⊎_elim
+    (λ (h : (bytes_eq w name ≡ true) × (option_map make (exactly n ws) ≡ Some j)). meant w ws j name n make h.0 h.1 named numbered)
+    others
+    (by_test (bytes_eq w name) (option_map make (exactly n ws)) rest j e)
+
 pub called_from : (w : List ℕ) (ws : List (List ℕ)) (j : JobLine) → said_by w ws ≡ Some j → Meant w ws j
-called_from w ws j e =
-    ⊎_elim
-    (λ (h : (bytes_eq w (codes "site") ≡ true) × (site_line ws ≡ Some j)). meant w ws j (codes "site") 10 (λ ns. Site (site_of ns)) h.0 h.1 (λ ns. refl) (λ ns. refl))
-    (λ (e₂ : cond (bytes_eq w (codes "place")) (place_line ws) (cond (bytes_eq w (codes "lift")) (lift_line ws) (cond (bytes_eq w (codes "rate")) (rate_line ws) None)) ≡ Some j).
-    ⊎_elim
-    (λ (h : (bytes_eq w (codes "place") ≡ true) × (place_line ws ≡ Some j)). meant w ws j (codes "place") 3 (λ ns. Place (bolt_of ns)) h.0 h.1 (λ ns. refl) (λ ns. refl))
-    (λ (e₃ : cond (bytes_eq w (codes "lift")) (lift_line ws) (cond (bytes_eq w (codes "rate")) (rate_line ws) None) ≡ Some j).
-    ⊎_elim
-    (λ (h : (bytes_eq w (codes "lift") ≡ true) × (lift_line ws ≡ Some j)). meant w ws j (codes "lift") 1 (λ ns. Lift (get_or ns 0 0)) h.0 h.1 (λ ns. refl) (λ ns. refl))
-    (λ (e₄ : cond (bytes_eq w (codes "rate")) (rate_line ws) None ≡ Some j).
-    ⊎_elim
-    (λ (h : (bytes_eq w (codes "rate") ≡ true) × (rate_line ws ≡ Some j)). meant w ws j (codes "rate") 0 (λ ns. Rate) h.0 h.1 (λ ns. refl) (λ ns. refl))
-    (λ (h : None ≡ Some j). absurd (none-some j h))
-    (by_test (bytes_eq w (codes "rate")) (rate_line ws) None j e₄))
-    (by_test (bytes_eq w (codes "lift")) (lift_line ws) _ j e₃))
-    (by_test (bytes_eq w (codes "place")) (place_line ws) _ j e₂))
-    (by_test (bytes_eq w (codes "site")) (site_line ws) _ j e)
+called_from w ws j =
+    asked w ws j (codes "site") 10 (λ ns. Site (site_of ns)) _ (λ ns. refl) (λ ns. refl)
+    (asked w ws j (codes "place") 3 (λ ns. Place (bolt_of ns)) _ (λ ns. refl) (λ ns. refl)
+    (asked w ws j (codes "lift") 1 (λ ns. Lift (get_or ns 0 0)) _ (λ ns. refl) (λ ns. refl)
+    (asked w ws j (codes "rate") 0 (λ ns. Rate) None (λ ns. refl) (λ ns. refl) (λ h. absurd (none-some j h)))))
 
 called_to : (ws : List (List ℕ)) (j : JobLine) → numbers_in ws ≡ Some (numbers_of j) → said_by (name_of j) ws ≡ Some j
 called_to ws (Site n) e = ap (option_map (λ ns. Site (site_of ns))) (exactly_to 10 ws (numbers_of (Site n)) e refl)

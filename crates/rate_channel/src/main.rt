@@ -22,6 +22,7 @@ const FILE: &str = "channel.cert";
 fn run(rt: &HostRuntime) -> anyhow::Result<()> {
     let certificate = match fs::read(rt, FILE) {
         Ok(bytes) => bytes,
+        // the file's name and fault stand on a line of their own, before the one that `main` leaves
         Err(e) => {
             eprintln!(rt; "{FILE}: {e}")?;
             return Err(anyhow!("no certificate"));

@@ -4,43 +4,24 @@
 // `reference/rating.py`, so a difference shows that one of the two departs from the documents.
 #![tactic(auto)]
 
-use anyhow::anyhow;
+use anyhow::Context;
 use job::printing::rate_job;
 use std::alloc::Global;
 use std::io::{BufRead, BufReader};
 
-fn digit(letter: u8) -> anyhow::Result<u8> {
-    match letter {
-        b'0'..=b'9' => Ok(letter - b'0'),
-        b'a'..=b'f' => Ok(letter - b'a' + 10),
-        _ => Err(anyhow!("not a hex digit")),
+// The bytes that hex digits write; a dash stands for none.
+fn decoded(heap: Global, digits: &str) -> anyhow::Result<Vec<u8>> {
+    if digits == "-" {
+        return Ok(Vec::new(heap));
     }
-}
-
-// The bytes that hex digits write.
-fn decoded(heap: Global, digits: &[u8]) -> anyhow::Result<Vec<u8>> {
-    let mut bytes = Vec::new(heap);
-    if digits == b"-".as_slice() {
-        return Ok(bytes);
-    }
-    if digits.len() % 2 != 0 {
-        return Err(anyhow!("half a byte"));
-    }
-    for k in 0..digits.len() / 2 {
-        let high = digit(digits[2 * k])?;
-        let low = digit(digits[2 * k + 1])?;
-        bytes.push(high.wrapping_mul(16) | low)?;
-    }
-    Ok(bytes)
+    Ok(hex::decode(heap, digits)?)
 }
 
 // What is printed of one line of the table.
 fn answer(heap: Global, line: &str) -> anyhow::Result<String> {
-    let Some((certificate, job)) = line.split_once(' ') else {
-        return Err(anyhow!("no space on the line"));
-    };
-    let certificate = decoded(heap, certificate.as_bytes())?;
-    let job = decoded(heap, job.as_bytes())?;
+    let (certificate, job) = line.split_once(' ').context("no space on the line")?;
+    let certificate = decoded(heap, certificate)?;
+    let job = decoded(heap, job)?;
     Ok(rate_job(heap, &certificate, &job)?)
 }
 

@@ -1,4 +1,4 @@
--- No byte is the mark, byte by byte.
+-- No byte is the mark, byte by byte: by recursion, since the lemmas take and give the bytes one at a time.
 use Rattle.std.proofs.Common.{All, ℕ, List, [], ◌∷◌, ◌≢◌}
 use Rattle.std.specs.List.{AllByRecursion}
 use Rattle.std.proofs.lemmas.List.Elements.{All-from_recursion}

@@ -14,6 +14,20 @@ pub fn place_of(bytes: &[u8], wanted: u8) -> usize
         .unwrap_or(bytes.len())
 }
 
+// Where the first line of a text ends.
+fn line_end(text: &[u8]) -> usize
+    ensures { FirstOf 10 text.now result }
+{
+    place_of(text, b'\n')
+}
+
+// Where the first word of a line ends.
+fn word_end(line: &[u8]) -> usize
+    ensures { FirstOf 32 line.now result }
+{
+    place_of(line, b' ')
+}
+
 // The first line of a text, without its line feed, and what follows it.
 #[derive(Clone, Copy)]
 pub struct LineCut<'a> {
@@ -30,7 +44,7 @@ pub fn cut_line<'a>(text: &'a [u8]) -> Option<LineCut<'a>>
     if text.is_empty() {
         return None;
     }
-    let end = place_of(text, b'\n');
+    let end = line_end(text);
     Some(LineCut {
         line: &text[..end],
         rest: text.get(end + 1..).unwrap_or(&[]),
@@ -77,7 +91,7 @@ pub fn cut_word<'a>(line: &'a [u8]) -> WordCut<'a>
     ensures words { words line.now ≡ result.word.now ∷ words_after (option_map (λ x. x.now) result.rest) }
     ensures joined { WordsOf line.now (words line.now) }
 {
-    let end = place_of(line, b' ');
+    let end = word_end(line);
     WordCut {
         word: &line[..end],
         rest: line.get(end + 1..),

@@ -10,8 +10,8 @@ returns-then-is_empty-clause-lines c = ap lines (nil_from_length c.args.text.now
 pub returns-clause-lines : goal.returns-clause-lines
 returns-clause-lines c =
     let some : 0 < length c.args.text.now = search rules in
-    rw c.unwrap_or.ensures (first_line c.args.text.now c.place_of-end.result c.get.result _ c.place_of-end.ensures c.get.ensures.lookup some refl)
+    rw c.unwrap_or.ensures (first_line c.args.text.now c.line_end-end.result c.get.result _ c.line_end-end.ensures c.get.ensures.lookup some refl)
 
 pub returns-clause-cut : goal.returns-clause-cut
 returns-clause-cut c =
-    rw c.unwrap_or.ensures (cut_at 10 c.args.text.now c.place_of-end.result c.get.result _ c.place_of-end.ensures c.get.ensures.lookup refl)
+    rw c.unwrap_or.ensures (cut_at 10 c.args.text.now c.line_end-end.result c.get.result _ c.line_end-end.ensures c.get.ensures.lookup refl)
