@@ -34,6 +34,27 @@ reduced_lawful w n L H x m i law fits some_low some_high safe close =
           (close (λ p in-R. at_most_near m.allowance (m.resistance i) p (law.resistance_close (omega arith) p in-R)) q in-L));
     }
 
+-- what a reduction owes of its own resistance n and readings L' and H'; the mode below has the resistance r with the low
+-- readings L, at the allowance a
+pub record Kept (a r n : ℕ) (L L' H' : Readings) : Type 0 where
+  pub fits : n ≤ 2000000000
+  pub some_low : (q : Fraction) × L' q
+  pub some_high : (q : Fraction) × H' q
+  pub safe : (q : Fraction) → H' q → AtMost (whole n) q
+  pub close : ((q : Fraction) → L q → Near a r q) → (q : Fraction) → L' q → Near (a + 50) n q
+
+-- where the ratio is not below 1 all stays as it is
+pub kept_below : (w : ℕ) (m : Meaning) (i n : ℕ) (L H : Readings) (t : Bool) → LawfulAt w m i → (t ≡ true → Kept m.allowance (m.resistance i) n (m.low_resistance i) L H)
+    → Kept m.allowance (m.resistance i) (cond t n (m.resistance i)) (m.low_resistance i) (cond t L (m.low_resistance i)) (cond t H (m.high_resistance i))
+kept_below w m i n L H false law kept = record {
+  fits = law.resistance_fits;
+  some_low = law.some_low_resistance;
+  some_high = law.some_high_resistance;
+  safe = law.resistance_safe;
+  close = λ near q in-L. near_rises m.allowance (m.resistance i) q (near q in-L);
+}
+kept_below w m i n L H true law kept = kept refl
+
 -- r times n over d, down, is at most every reading times a factor of at least n over d
 pub product_safe : (n d : ℕ) → 0 < d → (F R : Readings) → ((u : Fraction) → F u → n * u.below ≤ u.above * d)
     → (r : ℕ) → ((q : Fraction) → R q → AtMost (whole r) q) → (p : Fraction) → Times F R p → AtMost (whole (r * n / d)) p
@@ -53,41 +74,38 @@ times_exactly x l q p e same =
     let k : (p.above * (q.below * x.below)) * l.below ≡ (q.above * x.above * p.below) * l.below = omega arith in
     le_antisymm (le_of_mul-le-mul_right {k = l.below} (omega arith) l.proper) (le_of_mul-le-mul_right {k = l.below} (omega arith) l.proper)
 
-module _ (x : Fraction) (r : ℕ) (R : Readings) where
-  some : (t : Bool) → ((q : Fraction) × R q) → (p : Fraction) × cond t (Times (Exactly x) R) R p
-  some false h = h
-  some true (q, in-R) = (times q x, (q, x, in-R, refl, refl))
+module _ (x : Fraction) (less : x.above ≤ x.below) (r : ℕ) where
+  some : (R : Readings) → ((q : Fraction) × R q) → (p : Fraction) × Times (Exactly x) R p
+  some R (q, in-R) = (times q x, (q, x, in-R, refl, refl))
 
-  fits : (t : Bool) → (t ≡ true → x.above ≤ x.below) → r ≤ 2000000000 → cond t (r * x.above / x.below) r ≤ 2000000000
-  fits false _ h = h
-  fits true less h =
-      div-le_of_le-mul x.below (omega (arith, mul-le-mul_left r (less refl), mul-le-mul_right x.below h))
-
-  safe : (t : Bool) → ((q : Fraction) → R q → AtMost (whole r) q) → (p : Fraction) → cond t (Times (Exactly x) R) R p → AtMost (whole (cond t (r * x.above / x.below) r)) p
-  safe false h p in-R = h p in-R
-  safe true h p in-R = product_safe x.above x.below x.proper (Exactly x) R (λ u e. omega arith) r h p in-R
-
-  close : (t : Bool) (a : ℕ) → (t ≡ true → x.above ≤ x.below) → ((q : Fraction) → R q → Near a r q) → (p : Fraction) → cond t (Times (Exactly x) R) R p → Near (a + 50) (cond t (r * x.above / x.below) r) p
-  close false a less h p in-R = near_rises a r p (h p in-R)
-  close true a less h p (q, l, in-R, e, product) =
+  close : (a : ℕ) (R : Readings) → ((q : Fraction) → R q → Near a r q) → (p : Fraction) → Times (Exactly x) R p → Near (a + 50) (r * x.above / x.below) p
+  close a R h p (q, l, in-R, e, product) =
       let same = times_exactly x l q p e product in
       let step : (a + 50) / 50 ≡ a / 50 + 1 = omega arith in
       let y = mul-le-mul_right (x.above * p.below) (h q in-R) in
       let d : r * x.above ≤ r * x.above / x.below * x.below + x.below = omega (arith, lt-div-mul-add {a = r * x.above} x.proper) in
       let f : (r + 1000 + a / 50) * x.above ≤ (r * x.above / x.below + 1001 + a / 50) * x.below =
-      omega (arith, mul-le-mul_left (1000 + a / 50) (less refl)) in
+      omega (arith, mul-le-mul_left (1000 + a / 50) less) in
       let z = mul-le-mul_right (q.below * p.below) f in
       let v = ap (λ k. a * k) same in
       let k : (1000000 * p.above) * (q.below * x.below) ≤ ((a + 50) * p.above + 1000000 * ((r * x.above / x.below + 1000 + (a / 50 + 1)) * p.below)) * (q.below * x.below) = omega arith in
       rw step (le_of_mul-le-mul_right k (mul-pos q.proper x.proper))
 
+kept : (w : ℕ) (x : Fraction) (m : Meaning) (i : ℕ) → LawfulAt w m i → x.above ≤ x.below
+    → Kept m.allowance (m.resistance i) (m.resistance i * x.above / x.below) (m.low_resistance i) (Times (Exactly x) (m.low_resistance i)) (Times (Exactly x) (m.high_resistance i))
+kept w x m i law less =
+    let r = m.resistance i in
+    record {
+      fits = div-le_of_le-mul x.below (omega (arith, mul-le-mul_left r less, mul-le-mul_right x.below law.resistance_fits));
+      some_low = some x less r (m.low_resistance i) law.some_low_resistance;
+      some_high = some x less r (m.high_resistance i) law.some_high_resistance;
+      safe = product_safe x.above x.below x.proper (Exactly x) (m.high_resistance i) (λ u e. omega arith) r law.resistance_safe;
+      close = close x less r m.allowance (m.low_resistance i);
+    }
+
 pub straight_lawful : (w : ℕ) (x : ℕ → Fraction) (m : Meaning) (i : ℕ) → LawfulAt w m i → LawfulAt w (straight_meaning x m) i
 straight_lawful w x m i law =
     let y = x i in
-    let t = below_one (x i) in
     let less : below_one (x i) ≡ true → (x i).above ≤ (x i).below = λ e. omega (arith, ltb-true (x i).above (x i).below e) in
-    let r = m.resistance i in
-    let L = m.low_resistance i in
-    let H = m.high_resistance i in
-    reduced_lawful w straight_reduced Exactly Exactly x m i law (fits y r L t less law.resistance_fits) (some y r L t law.some_low_resistance)
-    (some y r H t law.some_high_resistance) (safe y r H t law.resistance_safe) (close y r L t m.allowance less)
+    let k = kept_below w m i _ _ _ (below_one y) law (λ e. kept w y m i law (less e)) in
+    reduced_lawful w straight_reduced Exactly Exactly x m i law k.fits k.some_low k.some_high k.safe k.close

@@ -1,9 +1,9 @@
 -- A resistance times the root of a ratio x in millionths, rounded down, against its readings times ends of brackets.
-use Rattle.std.specs.Prelude.{◌≡◌, ℕ, ◌+◌, ◌*◌, ◌/◌, ◌^◌, ◌<◌, ◌≤◌, Bool, true, false, cond, refl}
+use Rattle.std.specs.Prelude.{◌≡◌, ℕ, ◌+◌, ◌*◌, ◌/◌, ◌^◌, ◌<◌, ◌≤◌, refl}
 use Rattle.std.proofs.Common.{ap, inl, inr, mul-le-mul_right, mul-le-mul_left, le_of_mul-le-mul_right, mul-pos, arith, lit<, ltb-true}
 use Rattle.std.proofs.Math.Nat.{lt-div-mul-add, div-le_of_le-mul}
 use Rattle.std.proofs.lemmas.Bool.{cases_lt}
-use Rattle.fractions.specs.Fractions.{Fraction, AtMost, whole, times}
+use Rattle.fractions.specs.Fractions.{Fraction, whole, times}
 use Rattle.fractions.proofs.Powers.{pow_two}
 use Rattle.fractions.proofs.Roots.{root_below, root_above}
 use Rattle.roots.specs.Extremes.{Greatest}
@@ -12,8 +12,8 @@ use Rattle.roots.proofs.Extremes.{greatest_next}
 use Rattle.roots.proofs.Roots.{root_down_is, root_down_within}
 use Rattle.failure.specs.Meanings.{Readings, Meaning, LawfulAt}
 use Rattle.failure.specs.Reductions.{Times, LowRoot, HighRoot, below_one, root_reduced, root_meaning}
-use Rattle.failure.specs.Shortfalls.{Near, near_rises}
-use Rattle.failure.specs.Products.{reduced_lawful, product_safe}
+use Rattle.failure.specs.Shortfalls.{Near}
+use Rattle.failure.specs.Products.{Kept, kept_below, reduced_lawful, product_safe}
 
 -- g is the root in millionths, down
 module _ (x : Fraction) (g : ℕ) (is : Greatest (λ n. n * n * x.below ≤ x.above * 10 ^ 12) g) where
@@ -58,50 +58,37 @@ module _ (x : Fraction) (g : ℕ) (is : Greatest (λ n. n * n * x.below ≤ x.ab
             ]
 
 -- the factor of a ratio below 1
-module _ (x : Fraction) (enough : 25000 ≤ x.above) (small : x.below ≤ 2500000) where
-  root_is : x.above < x.below → Greatest (λ n. n * n * x.below ≤ x.above * 10 ^ 12) (root_down_of x.above x.below)
-  root_is less = root_down_is x.above x.below (omega arith) (omega arith)
+module _ (x : Fraction) (enough : 25000 ≤ x.above) (small : x.below ≤ 2500000) (less : x.above < x.below) where
+  root_is : Greatest (λ n. n * n * x.below ≤ x.above * 10 ^ 12) (root_down_of x.above x.below)
+  root_is = root_down_is x.above x.below (omega arith) (omega arith)
 
-  root_small : x.above < x.below → root_down_of x.above x.below ≤ 1000000
-  root_small less = omega (arith, root_down_within x.above x.below (omega arith) (omega arith) _ (root_is less))
+  root_small : root_down_of x.above x.below ≤ 1000000
+  root_small = omega (arith, root_down_within x.above x.below (omega arith) (omega arith) _ root_is)
 
   -- a hundredth or more, so its root is a tenth or more
-  root_big : x.above < x.below → 100000 ≤ root_down_of x.above x.below
-  root_big less = (root_is less).most 100000 (omega arith)
+  root_big : 100000 ≤ root_down_of x.above x.below
+  root_big = root_is.most 100000 (omega arith)
 
-  module _ (r : ℕ) (R : Readings) where
-    fits : (t : Bool) → (t ≡ true → x.above < x.below) → r ≤ 2000000000 → cond t (r * root_down_of x.above x.below / 1000000) r ≤ 2000000000
-    fits false less h = h
-    fits true less h = div-le_of_le-mul 1000000 (omega (arith, mul-le-mul_left r (root_small (less refl))))
+  some_low : (R : Readings) → ((q : Fraction) × R q) → (p : Fraction) × Times (LowRoot x) R p
+  some_low R (q, in-R) = (times q (whole 0), (q, whole 0, in-R, omega arith, refl))
 
-    some_low : (t : Bool) → ((q : Fraction) × R q) → (p : Fraction) × cond t (Times (LowRoot x) R) R p
-    some_low false h = h
-    some_low true (q, in-R) = (times q (whole 0), (q, whole 0, in-R, omega arith, refl))
+  some_high : (R : Readings) → ((q : Fraction) × R q) → (p : Fraction) × Times (HighRoot x) R p
+  some_high R (q, in-R) = (times q (whole 1), (q, whole 1, in-R, omega arith, refl))
 
-    some_high : (t : Bool) → (t ≡ true → x.above < x.below) → ((q : Fraction) × R q) → (p : Fraction) × cond t (Times (HighRoot x) R) R p
-    some_high false less h = h
-    some_high true less (q, in-R) = let l = less refl in (times q (whole 1), (q, whole 1, in-R, omega arith, refl))
-
-    safe : (t : Bool) → (t ≡ true → x.above < x.below) → ((q : Fraction) → R q → AtMost (whole r) q) → (p : Fraction) → cond t (Times (HighRoot x) R) R p
-        → AtMost (whole (cond t (r * root_down_of x.above x.below / 1000000) r)) p
-    safe false less h p in-R = h p in-R
-    safe true less h p in-R =
-        product_safe _ 1000000 (lit< tt) (HighRoot x) R (under_high x _ (root_is (less refl))) r h p in-R
-
-    close : (t : Bool) (a : ℕ) → (t ≡ true → x.above < x.below) → ((q : Fraction) → R q → Near a r q) → (p : Fraction) → cond t (Times (LowRoot x) R) R p
-        → Near (a + 50) (cond t (r * root_down_of x.above x.below / 1000000) r) p
-    close false a less h p in-R = near_rises a r p (h p in-R)
-    close true a less h p in-R =
-        let l = less refl in root_close x _ (root_is l) r R (omega arith) (root_big l) a h p in-R
+  kept : (w : ℕ) (m : Meaning) (i : ℕ) → LawfulAt w m i
+      → Kept m.allowance (m.resistance i) (m.resistance i * root_down_of x.above x.below / 1000000) (m.low_resistance i) (Times (LowRoot x) (m.low_resistance i)) (Times (HighRoot x) (m.high_resistance i))
+  kept w m i law =
+      let r = m.resistance i in
+      record {
+        fits = div-le_of_le-mul 1000000 (omega (arith, mul-le-mul_left r root_small, law.resistance_fits));
+        some_low = some_low (m.low_resistance i) law.some_low_resistance;
+        some_high = some_high (m.high_resistance i) law.some_high_resistance;
+        safe = product_safe _ 1000000 (lit< tt) (HighRoot x) (m.high_resistance i) (under_high x _ root_is) r law.resistance_safe;
+        close = root_close x _ root_is r (m.low_resistance i) (omega arith) root_big m.allowance;
+      }
 
 pub root_lawful : (w : ℕ) (x : ℕ → Fraction) (m : Meaning) (i : ℕ) → 25000 ≤ (x i).above → (x i).below ≤ 2500000 → LawfulAt w m i → LawfulAt w (root_meaning x m) i
 root_lawful w x m i enough small law =
     let y = x i in
-    let t = below_one (x i) in
-    let less : below_one (x i) ≡ true → (x i).above < (x i).below = ltb-true (x i).above (x i).below in
-    let r = m.resistance i in
-    let L = m.low_resistance i in
-    let H = m.high_resistance i in
-    reduced_lawful w root_reduced LowRoot HighRoot x m i law (fits y enough small r L t less law.resistance_fits)
-    (some_low y enough small r L t law.some_low_resistance) (some_high y enough small r H t less law.some_high_resistance)
-    (safe y enough small r H t less law.resistance_safe) (close y enough small r L t m.allowance less)
+    let k = kept_below w m i _ _ _ (below_one y) law (λ e. kept y enough small (ltb-true y.above y.below e) w m i law) in
+    reduced_lawful w root_reduced LowRoot HighRoot x m i law k.fits k.some_low k.some_high k.safe k.close

@@ -10,5 +10,4 @@ pub mod edition;
 pub mod fault;
 pub mod prepared;
 mod reductions;
-mod steel;
 mod strength;
