@@ -39,17 +39,17 @@ impl Line {
     // The line of a word and its numbers.
     fn said(word: &str, numbers: &[u32]) -> Option<Line> {
         match (word, numbers) {
-            ("open", [anchors, spacing, inertia]) => Some(Line::Open(Opening {
-                anchors: *anchors,
-                spacing: *spacing,
-                inertia: *inertia,
+            ("open", &[anchors, spacing, inertia]) => Some(Line::Open(Opening {
+                anchors,
+                spacing,
+                inertia,
             })),
-            ("place", [position, tension, shear]) => Some(Line::Place(Bolt {
-                position: *position,
-                tension: *tension,
-                shear: *shear,
+            ("place", &[position, tension, shear]) => Some(Line::Place(Bolt {
+                position,
+                tension,
+                shear,
             })),
-            (_, [place, numbers @ ..]) => Some(Line::Mode(Mode::parse(word, numbers)?, *place)),
+            (_, &[place, ref numbers @ ..]) => Some(Line::Mode(Mode::parse(word, numbers)?, place)),
             _ => None,
         }
     }
