@@ -13,7 +13,7 @@ use Rattle.failure.specs.Shortfalls.{near_at_most}
 use Rattle.groups.specs.declared.spacing.CharacteristicSpacing.{CharacteristicSpacing}
 use Rattle.steel_modes.specs.Quotients.{proper_factor}
 use Rattle.steel_modes.specs.declared.design.PartialFactor.{PartialFactor}
-use Rattle.steel_modes.specs.QuotientLemmas.{equal_below, equal_above, quotient_fits}
+use Rattle.failure.proofs.Quotients.{equal_below, equal_above, down_fits}
 use Rattle.concrete.specs.Cone.{cone_resistance, LowCone, HighCone, low_cone, high_cone}
 use Rattle.concrete.proofs.Cone.{cone_safe, cone_close}
 use Rattle.concrete_modes.specs.Cones.{cone_meaning, square_of, value_of}
@@ -40,7 +40,7 @@ module _ (d : Direction) (S : CharacteristicSpacing) (b : ConeBasis) (f : Partia
       let R = cone_resistance x γ in
       record {
         effect_fits = effect_le S.um S.some c d i v;
-        resistance_fits = quotient_fits (x * 100) γ f.least (omega (arith, root_le x (N / 10) is.fits (omega (arith, small))));
+        resistance_fits = down_fits (x * 100) γ f.least (omega (arith, root_le x (N / 10) is.fits (omega (arith, small))));
         some_low_effect = some_low S c d i v;
         some_high_effect = some_high S c d i v;
         some_low_resistance = (low_cone γ pos (low_root N), (low_root N, refl));

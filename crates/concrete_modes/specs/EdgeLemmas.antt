@@ -10,7 +10,7 @@ use Rattle.failure.specs.Shortfalls.{near_at_most}
 use Rattle.groups.specs.declared.spacing.CharacteristicSpacing.{CharacteristicSpacing}
 use Rattle.steel_modes.specs.Quotients.{proper_factor}
 use Rattle.steel_modes.specs.declared.design.PartialFactor.{PartialFactor}
-use Rattle.steel_modes.specs.QuotientLemmas.{equal_below, equal_above, quotient_fits}
+use Rattle.failure.proofs.Quotients.{equal_below, equal_above, down_fits}
 use Rattle.concrete.specs.Edge.{edge_resistance}
 use Rattle.concrete_modes.specs.Edges.{edge_meaning}
 use Rattle.concrete_modes.specs.Groups.{effect_le, some_low, some_high, group_safe, group_close}
@@ -40,7 +40,7 @@ module _ (S : CharacteristicSpacing) (x p : ℕ) (f : PartialFactor) (lo hi : Re
       let R = edge_resistance x p γ in
       record {
         effect_fits = effect_le S.um S.some c Shear i v;
-        resistance_fits = quotient_fits (x * p) γ f.least fits;
+        resistance_fits = down_fits (x * p) γ f.least fits;
         some_low_effect = some_low S c Shear i v;
         some_high_effect = some_high S c Shear i v;
         some_low_resistance = (times y some-lo.0, (some-lo.0, some-lo.1, refl));

@@ -11,7 +11,7 @@ use Rattle.forces.specs.Cases.{Case, Valid}
 use Rattle.forces.specs.Exact.{force}
 use Rattle.forces.proofs.Exactness.{bounded}
 use Rattle.failure.specs.Meanings.{excess}
-use Rattle.steel_modes.specs.QuotientLemmas.{equal_below, equal_above}
+use Rattle.failure.proofs.Quotients.{equal_below, equal_above}
 use Rattle.groups.specs.Groups.{weight_on, part, group_effect, LowChoice, HighChoice, low_effect, high_effect}
 use Rattle.groups.specs.declared.spacing.CharacteristicSpacing.{CharacteristicSpacing}
 use Rattle.groups.proofs.Effects.{effect_covers, effect_near}

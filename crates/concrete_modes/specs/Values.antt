@@ -12,7 +12,7 @@ use Rattle.forces.specs.Cases.{Case, Valid}
 use Rattle.failure.specs.Meanings.{LawfulAt}
 use Rattle.groups.specs.declared.spacing.CharacteristicSpacing.{CharacteristicSpacing}
 use Rattle.steel_modes.specs.declared.design.PartialFactor.{PartialFactor}
-use Rattle.steel_modes.specs.QuotientLemmas.{equal_above}
+use Rattle.failure.proofs.Quotients.{equal_above}
 use Rattle.concrete.specs.Edge.{edge_first, edge_second, edge_square, strength_root, distance_root, LowRoots, HighRoots, second_read}
 use Rattle.concrete.proofs.Edge.{second_safe, second_close}
 use Rattle.concrete_modes.specs.Edges.{first_meaning, second_meaning}

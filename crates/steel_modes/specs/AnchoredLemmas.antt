@@ -13,7 +13,7 @@ use Rattle.failure.specs.declared.places.Places.{Places}
 use Rattle.steel_modes.specs.Quotients.{proper_factor, divided}
 use Rattle.steel_modes.specs.Anchored.{force_meaning, on_anchors, nowhere}
 use Rattle.steel_modes.specs.declared.design.PartialFactor.{PartialFactor}
-use Rattle.steel_modes.specs.QuotientLemmas.{equal_below, quotient_safe, quotient_close, quotient_fits}
+use Rattle.failure.proofs.Quotients.{equal_below, down_safe, down_close, down_fits}
 use Rattle.steel_modes.specs.Enclosing.{ends_of, beyond_all}
 
 pub force_lawful : (p : Places) (d : Direction) (n : ℕ) (f : PartialFactor) (c : Case) → Valid c → n ≤ 200000000000 → (i : ℕ) → i < c.opening.anchors
@@ -25,18 +25,18 @@ force_lawful p d n f c v small i here =
     let w = total_load d c.bolts in
     record {
       effect_fits = (bounded c d v).each i here;
-      resistance_fits = quotient_fits n f.hundredths f.least small;
+      resistance_fits = down_fits n f.hundredths f.least small;
       some_low_effect = (force_read (low_length e) (high_length e) c d i, (e, refl));
       some_high_effect = (force_read (high_length e) (low_length e) c d i, (e, beyond_all c v, refl));
       some_low_resistance = (divided n f, refl);
       some_high_resistance = (divided n f, refl);
       effect_safe = λ q r. equal_below q (force_read (low_length r.0) (high_length r.0) c d i) (whole (force c d i)) r.1 (a.never_below i here r.0);
-      resistance_safe = λ q r. quotient_safe n f.hundredths pos q r;
+      resistance_safe = λ q r. down_safe n f.hundredths pos q r;
       effect_close = λ _ q r.
           let R = force_read (high_length r.0) (low_length r.0) c d i in
           at_most_trans (whole (force c d i)) (plus R (excess w)) (plus q (excess w)) (a.hardly_above i here r.0 r.1)
           (plus_rises R q (excess w) (excess w) (equal_below R q q (sym r.2) (at_most_refl q)) (at_most_refl (excess w)));
-      resistance_close = λ _ q r. quotient_close n f.hundredths pos q r;
+      resistance_close = λ _ q r. down_close n f.hundredths pos q r 0;
     }
 
 pub count_within : (t : Bool) (c : Case) (i : ℕ) → i < (cond t nowhere (on_anchors c)).count → i < c.opening.anchors
