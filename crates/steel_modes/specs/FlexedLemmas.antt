@@ -1,7 +1,7 @@
 -- The bending of the channel keeps what every mode owes.
 use Rattle.std.proofs.Common.{ℕ, ◌+◌, ◌*◌, ◌<◌, ◌≤◌, length, refl, arith}
 use Rattle.fractions.specs.Fractions.{AtMost, whole, plus}
-use Rattle.fractions.proofs.Orders.{at_most_trans, plus_rises, whole_rises}
+use Rattle.fractions.proofs.Orders.{at_most_trans, at_most_refl, plus_rises, whole_rises}
 use Rattle.bolts.specs.Bolts.{bolt_at}
 use Rattle.bolts.specs.Loads.{total_load}
 use Rattle.bolts.specs.declared.bolt.Direction.TheVariants.{Tension}
@@ -13,6 +13,7 @@ use Rattle.steel_modes.specs.Spans.{part_up, part_read, moment_at, moment_read}
 use Rattle.steel_modes.specs.Flexed.{flexure_meaning}
 use Rattle.steel_modes.specs.declared.design.PartialFactor.{PartialFactor}
 use Rattle.failure.proofs.Quotients.{equal_below, down_safe, down_close, down_fits}
+use Rattle.steel_modes.specs.AnchoredLemmas.{close_by}
 use Rattle.steel_modes.specs.SpanLemmas.{sum_covers, sum_near, part_covers, part_near, moment_le}
 
 pub tension_le : (c : Case) → Valid c → (k : ℕ) → k < length c.bolts → (bolt_at c.bolts k).tension ≤ 200000
@@ -47,8 +48,8 @@ module _ (c : Case) (v : Valid c) (i : ℕ) where
         resistance_safe = λ q e. down_safe (n * 100000) f.hundredths pos q e;
         effect_close = λ _ q e.
             let few : length c.bolts ≤ total_load Tension c.bolts + 1000 = omega (arith, v.few) in
-            let le : AtMost (moment_read c i) q = omega arith in
-            at_most_trans (whole (moment_at c i)) (plus x (whole (length c.bolts))) (plus q (excess w)) near
-            (plus_rises x q (whole (length c.bolts)) (excess w) le (whole_rises _ _ few));
+            close_by q x (moment_at c i) w e
+            (at_most_trans (whole (moment_at c i)) (plus x (whole (length c.bolts))) (plus x (excess w)) near
+            (plus_rises x x (whole (length c.bolts)) (excess w) (at_most_refl x) (whole_rises _ _ few)));
         resistance_close = λ _ q e. down_close (n * 100000) f.hundredths pos q e 0;
       }
