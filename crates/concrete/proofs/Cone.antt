@@ -1,8 +1,6 @@
 -- The cone's resistance against its readings.
-use Prim.Native.Nat.{ℕ, ◌+◌, ◌*◌, ◌/◌, ◌^◌, ◌<◌, ◌≤◌}
-use native.Mathlib.Nat.{div-mul-le_self, lt-div-mul-add, mul-le-mul_right}
-use native.Mathlib.Omega.{arith}
-use lib.Dec.{lit<}
+use Rattle.std.proofs.Common.{ℕ, ◌+◌, ◌*◌, ◌/◌, ◌^◌, ◌<◌, ◌≤◌, div-mul-le_self, mul-le-mul_right, lit<, arith}
+use Rattle.std.proofs.Math.Nat.{lt-div-mul-add}
 use Rattle.fractions.specs.Fractions.{AtMost, whole, plus}
 use Rattle.fractions.proofs.Powers.{pow_two}
 use Rattle.fractions.proofs.Roots.{root_below, root_above}

@@ -1,9 +1,5 @@
 -- The edge's value by the second edition against its readings.
-use mathlib.Core.Path.{◌≡◌}
-use Prim.Native.Nat.{ℕ, ◌+◌, ◌*◌, ◌/◌, ◌^◌, ◌<◌, ◌≤◌}
-use native.Mathlib.Nat.{mul-le-mul, mul-le-mul_right, mul-le-mul_left}
-use native.Mathlib.Omega.{arith}
-use lib.Dec.{lit<}
+use Rattle.std.proofs.Common.{◌≡◌, ℕ, ◌+◌, ◌*◌, ◌/◌, ◌^◌, ◌<◌, ◌≤◌, mul-le-mul, mul-le-mul_right, mul-le-mul_left, lit<, arith}
 use Rattle.fractions.specs.Fractions.{AtMost, whole, over, times}
 use Rattle.fractions.proofs.Powers.{pow_two, pow_three}
 use Rattle.fractions.proofs.Roots.{root_below, root_above, square_below, cube_below}

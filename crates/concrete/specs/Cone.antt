@@ -1,6 +1,6 @@
 -- The concrete cone: factor k in tenths, strength f in N/mm², embedment depth h in tenths, m the factor of pry-out in
 -- tenths (10 for the cone itself), partial factor γ in hundredths.
---   cone_square k f h m      ten times the square of the basic value, in hundredths of a newton
+--   cone_square k f h m      ten times the square of the basic value in mN
 --   cone_value k f h m       the greatest whole number whose square fits
 --   cone_resistance          the value over the partial factor, down, in mN
 --   cone_spacing h           the characteristic spacing in µm; cone_edge h half of it, up

@@ -1,18 +1,19 @@
 -- The cone keeps what every mode owes.
-use Rattle.std.proofs.Common.{ℕ, ◌+◌, ◌*◌, ◌/◌, ◌≤◌, refl, mul-le-mul_right, mul-le-mul, arith}
-use native.Mathlib.Nat.{div-le_of_le-mul}
-use Rattle.fractions.specs.Fractions.{Fraction, AtMost, whole, plus}
+use Rattle.std.proofs.Common.{ℕ, ◌+◌, ◌*◌, ◌/◌, ◌≤◌, refl, arith}
+use Rattle.fractions.specs.Fractions.{whole, plus}
 use Rattle.fractions.proofs.Powers.{pow_two}
+use Rattle.fractions.proofs.Roots.{square_below}
 use Rattle.roots.specs.Extremes.{Greatest}
 use Rattle.roots.proofs.Roots.{square_root_is}
 use Rattle.bolts.specs.Loads.{total_load}
 use Rattle.bolts.specs.declared.bolt.Direction.{Direction}
 use Rattle.forces.specs.Cases.{Case, Valid}
-use Rattle.failure.specs.Meanings.{LawfulAt, shortfall}
+use Rattle.failure.specs.Meanings.{LawfulAt}
+use Rattle.failure.specs.Shortfalls.{near_at_most}
 use Rattle.groups.specs.declared.spacing.CharacteristicSpacing.{CharacteristicSpacing}
 use Rattle.steel_modes.specs.Quotients.{proper_factor}
 use Rattle.steel_modes.specs.declared.design.PartialFactor.{PartialFactor}
-use Rattle.steel_modes.specs.QuotientLemmas.{equal_below, equal_above}
+use Rattle.failure.proofs.Quotients.{equal_below, equal_above, down_fits}
 use Rattle.concrete.specs.Cone.{cone_resistance, LowCone, HighCone, low_cone, high_cone}
 use Rattle.concrete.proofs.Cone.{cone_safe, cone_close}
 use Rattle.concrete_modes.specs.Cones.{cone_meaning, square_of, value_of}
@@ -26,12 +27,7 @@ high_root : (N : ℕ) → HighCone N
 high_root N = record { root = whole (N + 1); is_high = rw (pow_two (N + 1)) (omega arith) }
 
 root_le : (x n : ℕ) → x * x ≤ n → n ≤ 792187500000000000 → x ≤ 2000000000
-root_le x n h small =
-    let no : 2000000001 ≤ x → ⊥ = λ l. let m : 2000000001 * 2000000001 ≤ x * x = mul-le-mul l l in omega arith in
-    omega arith
-
-value_le : (x γ : ℕ) → x ≤ 2000000000 → 100 ≤ γ → x * 100 / γ ≤ 2000000000
-value_le x γ h least = div-le_of_le-mul γ (omega (arith, mul-le-mul_right 2000000000 least))
+root_le x n h small = square_below x 2000000000 (omega arith)
 
 module _ (d : Direction) (S : CharacteristicSpacing) (b : ConeBasis) (f : PartialFactor) (c : Case) (v : Valid c) (small : square_of b ≤ 7921875000000000000) where
   pub cone_lawful : (i : ℕ) → LawfulAt (total_load d c.bolts) (cone_meaning d S b f c) i
@@ -44,7 +40,7 @@ module _ (d : Direction) (S : CharacteristicSpacing) (b : ConeBasis) (f : Partia
       let R = cone_resistance x γ in
       record {
         effect_fits = effect_le S.um S.some c d i v;
-        resistance_fits = value_le x γ (root_le x (N / 10) is.fits (omega (arith, small))) f.least;
+        resistance_fits = down_fits (x * 100) γ f.least (omega (arith, root_le x (N / 10) is.fits (omega (arith, small))));
         some_low_effect = some_low S c d i v;
         some_high_effect = some_high S c d i v;
         some_low_resistance = (low_cone γ pos (low_root N), (low_root N, refl));
@@ -54,8 +50,5 @@ module _ (d : Direction) (S : CharacteristicSpacing) (b : ConeBasis) (f : Partia
         effect_close = λ _. group_close S c d i v;
         resistance_close = λ _ q r.
             let near = equal_below q (low_cone γ pos r.0) (plus (whole R) (whole 2)) r.1 (cone_close N x γ f.least is pos r.0) in
-            close R q near;
+            near_at_most 0 R q (omega (arith, near));
       }
-    where
-      close : (R : ℕ) (q : Fraction) → AtMost q (plus (whole R) (whole 2)) → AtMost q (plus (whole R) (shortfall 0 q))
-      close R q h = omega (arith, mul-le-mul_right q.below h)

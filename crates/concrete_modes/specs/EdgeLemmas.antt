@@ -1,6 +1,6 @@
 -- The edge keeps what every mode owes.
-use Rattle.std.proofs.Common.{ℕ, ◌+◌, ◌*◌, ◌/◌, ◌<◌, ◌≤◌, refl, mul-le-mul_right, mul-le-mul_left, div-mul-le_self, le_of_mul-le-mul_right, arith, lit<}
-use native.Mathlib.Nat.{lt-div-mul-add}
+use Rattle.std.proofs.Common.{ℕ, ◌+◌, ◌*◌, ◌/◌, ◌<◌, ◌≤◌, refl, mul-le-mul_right, mul-le-mul_left, div-mul-le_self, arith, lit<}
+use Rattle.std.proofs.Math.Nat.{lt-div-mul-add}
 use Rattle.fractions.specs.Fractions.{Fraction, AtMost, whole, over, times}
 use Rattle.bolts.specs.Loads.{total_load}
 use Rattle.bolts.specs.declared.bolt.Direction.TheVariants.{Shear}
@@ -10,7 +10,7 @@ use Rattle.failure.specs.Shortfalls.{near_at_most}
 use Rattle.groups.specs.declared.spacing.CharacteristicSpacing.{CharacteristicSpacing}
 use Rattle.steel_modes.specs.Quotients.{proper_factor}
 use Rattle.steel_modes.specs.declared.design.PartialFactor.{PartialFactor}
-use Rattle.steel_modes.specs.QuotientLemmas.{equal_above, quotient_fits}
+use Rattle.failure.proofs.Quotients.{equal_below, equal_above, down_fits}
 use Rattle.concrete.specs.Edge.{edge_resistance}
 use Rattle.concrete_modes.specs.Edges.{edge_meaning}
 use Rattle.concrete_modes.specs.Groups.{effect_le, some_low, some_high, group_safe, group_close}
@@ -24,13 +24,14 @@ scaled_close x p γ pos least small ra rb h =
     let e = mul-le-mul_right rb d in
     omega (arith, mul-le-mul_left p h, e)
 
--- a bound on a fraction holds for each that is the same number
-same_bound : (T q : Fraction) (m : ℕ) → Exactly T q → 999990 * T.above ≤ 1000000 * (m * T.below) → 999990 * q.above ≤ 1000000 * (m * q.below)
-same_bound T q m e h =
-    let k : (999990 * q.above) * T.below ≤ (1000000 * (m * q.below)) * T.below = omega (arith, e, mul-le-mul_right q.below h) in
-    le_of_mul-le-mul_right k T.proper
+abbrev pub nearly : Fraction
+nearly = over 999990 1000000 (lit< tt)
 
-module _ (S : CharacteristicSpacing) (x p : ℕ) (f : PartialFactor) (lo hi : Readings) (c : Case) (v : Valid c) (fits : x * p ≤ 200000000000) (small : p ≤ 140) (some-lo : (r : Fraction) × lo r) (some-hi : (r : Fraction) × hi r) (safe : (r : Fraction) → hi r → AtMost (whole x) r) (close : (r : Fraction) → lo r → AtMost (times r (over 999990 1000000 (lit< tt))) (whole (x + 1))) where
+-- a bound on a fraction holds for each that is the same number
+pub same_times : (T r : Fraction) (z : Fraction) → Exactly T r → AtMost (times T nearly) z → AtMost (times r nearly) z
+same_times T r z e h = equal_below (times r nearly) (times T nearly) z (omega (arith, e)) h
+
+module _ (S : CharacteristicSpacing) (x p : ℕ) (f : PartialFactor) (lo hi : Readings) (c : Case) (v : Valid c) (fits : x * p ≤ 200000000000) (small : p ≤ 140) (some-lo : (r : Fraction) × lo r) (some-hi : (r : Fraction) × hi r) (safe : (r : Fraction) → hi r → AtMost (whole x) r) (close : (r : Fraction) → lo r → AtMost (times r nearly) (whole (x + 1))) where
   pub edge_lawful : (i : ℕ) → LawfulAt (total_load Shear c.bolts) (edge_meaning S x p f lo hi c) i
   edge_lawful i =
       let γ = f.hundredths in
@@ -39,7 +40,7 @@ module _ (S : CharacteristicSpacing) (x p : ℕ) (f : PartialFactor) (lo hi : Re
       let R = edge_resistance x p γ in
       record {
         effect_fits = effect_le S.um S.some c Shear i v;
-        resistance_fits = quotient_fits (x * p) γ f.least fits;
+        resistance_fits = down_fits (x * p) γ f.least fits;
         some_low_effect = some_low S c Shear i v;
         some_high_effect = some_high S c Shear i v;
         some_low_resistance = (times y some-lo.0, (some-lo.0, some-lo.1, refl));
@@ -50,6 +51,6 @@ module _ (S : CharacteristicSpacing) (x p : ℕ) (f : PartialFactor) (lo hi : Re
         resistance_close = λ _ q r.
             let g = r.0 in
             let a = scaled_close x p γ pos f.least small g.above g.below (omega (arith, close g r.1)) in
-            let b = same_bound (times y g) q (R + 1000) r.2 a in
+            let b = same_times (times y g) q (whole (R + 1000)) r.2 (omega (arith, a)) in
             near_at_most 10 R q (omega (arith, b));
       }

@@ -3,7 +3,6 @@ use Rattle.std.proofs.Common.{ℕ, ◌*◌, ◌<◌, ◌≤◌, List, [], ◌∷
 use Rattle.std.specs.List.{range_with_len}
 use Rattle.std.proofs.lemmas.List.Sums.{sum_by-cons}
 use Rattle.fractions.specs.Fractions.{Fraction, AtMost, whole, plus}
-use Rattle.fractions.proofs.Orders.{at_most_trans, plus_rises, at_most_refl}
 use Rattle.roots.specs.Division.{up}
 use Rattle.bolts.specs.Loads.{total_load}
 use Rattle.bolts.specs.declared.bolt.Direction.{Direction}
@@ -11,12 +10,13 @@ use Rattle.forces.specs.Cases.{Case, Valid}
 use Rattle.forces.specs.Exact.{force}
 use Rattle.forces.proofs.Exactness.{bounded}
 use Rattle.failure.specs.Meanings.{excess}
-use Rattle.steel_modes.specs.QuotientLemmas.{equal_below, equal_above}
+use Rattle.failure.proofs.Quotients.{equal_below}
 use Rattle.groups.specs.Groups.{weight_on, part, group_effect, LowChoice, HighChoice, low_effect, high_effect}
 use Rattle.groups.specs.declared.spacing.CharacteristicSpacing.{CharacteristicSpacing}
 use Rattle.groups.proofs.Effects.{effect_covers, effect_near}
 use Rattle.groups.proofs.Weights.{weight_on_small}
 use Rattle.steel_modes.specs.Enclosing.{ends_of, beyond_all}
+use Rattle.steel_modes.specs.AnchoredLemmas.{close_by}
 use Rattle.concrete_modes.specs.Effects.{LowGroup, HighGroup}
 
 scaled : (f g : ℕ → ℕ) (xs : List ℕ) → ((x : ℕ) → f x ≤ g x) → 1000000 * sum_by f xs ≤ sum_by (λ x. 1000000 * g x) xs
@@ -56,7 +56,4 @@ module _ (S : CharacteristicSpacing) (c : Case) (d : Direction) (i : ℕ) (v : V
 
   pub group_close : (q : Fraction) → HighGroup S c d i q → AtMost (whole (group_effect S.um c d i)) (plus q (excess (total_load d c.bolts)))
   group_close q r =
-      let H = high_effect r.0 d in
-      let w = excess (total_load d c.bolts) in
-      at_most_trans (whole (group_effect S.um c d i)) (plus H w) (plus q w) (effect_near S.um S.some c d i v r.0)
-      (plus_rises H q w w (equal_above q H H r.1 (at_most_refl H)) (at_most_refl w))
+      close_by q (high_effect r.0 d) (group_effect S.um c d i) (total_load d c.bolts) r.1 (effect_near S.um S.some c d i v r.0)

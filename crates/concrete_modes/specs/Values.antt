@@ -1,6 +1,6 @@
 -- The values of both editions against their readings.
 use Rattle.std.proofs.Common.{ℕ, ◌+◌, ◌*◌, ◌^◌, ◌≤◌, refl, arith, lit<}
-use Rattle.fractions.specs.Fractions.{Fraction, AtMost, PowerAtMost, PowerAtLeast, whole, over, times}
+use Rattle.fractions.specs.Fractions.{Fraction, AtMost, PowerAtMost, PowerAtLeast, whole, times}
 use Rattle.fractions.proofs.Powers.{pow_two, pow_three}
 use Rattle.fractions.proofs.Roots.{root_below, root_above}
 use Rattle.roots.specs.Extremes.{Greatest}
@@ -9,23 +9,16 @@ use Rattle.roots.proofs.Roots.{square_root_is, cube_root_is}
 use Rattle.bolts.specs.Loads.{total_load}
 use Rattle.bolts.specs.declared.bolt.Direction.TheVariants.{Shear}
 use Rattle.forces.specs.Cases.{Case, Valid}
-use Rattle.failure.specs.Meanings.{Exactly, LawfulAt}
+use Rattle.failure.specs.Meanings.{LawfulAt}
 use Rattle.groups.specs.declared.spacing.CharacteristicSpacing.{CharacteristicSpacing}
 use Rattle.steel_modes.specs.declared.design.PartialFactor.{PartialFactor}
-use Rattle.steel_modes.specs.QuotientLemmas.{equal_below, equal_above}
+use Rattle.failure.proofs.Quotients.{equal_above}
 use Rattle.concrete.specs.Edge.{edge_first, edge_second, edge_square, strength_root, distance_root, LowRoots, HighRoots, second_read}
 use Rattle.concrete.proofs.Edge.{second_safe, second_close}
 use Rattle.concrete_modes.specs.Edges.{first_meaning, second_meaning}
 use Rattle.concrete_modes.specs.declared.edge.EdgeBasis.{EdgeBasis}
-use Rattle.concrete_modes.specs.EdgeLemmas.{edge_lawful}
+use Rattle.concrete_modes.specs.EdgeLemmas.{nearly, same_times, edge_lawful}
 use Rattle.concrete_modes.specs.Sizes.{strength_le, distance_le, four_le, square_le, root_le, scaled_le}
-
-abbrev nearly : Fraction
-nearly = over 999990 1000000 (lit< tt)
-
--- a bound on a fraction holds for each that is the same number
-same_times : (T r : Fraction) (z : Fraction) → Exactly T r → AtMost (times T nearly) z → AtMost (times r nearly) z
-same_times T r z e h = equal_below (times r nearly) (times T nearly) z (omega (arith, e)) h
 
 low_roots : (f c : ℕ) → LowRoots f c
 low_roots f c = record { strength = whole 0; distance = whole 0; strength_low = omega arith; distance_low = omega arith }

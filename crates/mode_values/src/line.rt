@@ -17,12 +17,12 @@ pub enum Line {
 }
 
 impl Line {
-    // Reads a line, with its line feed or, at the end of the input, without; none where it says nothing known.
+    // Reads a line, without its line feed; none where it says nothing known.
     pub(crate) fn parse(heap: Global, bytes: &[u8]) -> anyhow::Result<Option<Line>> {
         let Ok(line) = from_utf8(bytes) else {
             return Ok(None);
         };
-        let mut words = line.strip_suffix('\n').unwrap_or(line).split(' ');
+        let mut words = line.split(' ');
         let Some(word) = words.next() else {
             return Ok(None);
         };
@@ -39,17 +39,17 @@ impl Line {
     // The line of a word and its numbers.
     fn said(word: &str, numbers: &[u32]) -> Option<Line> {
         match (word, numbers) {
-            ("open", [anchors, spacing, inertia]) => Some(Line::Open(Opening {
-                anchors: *anchors,
-                spacing: *spacing,
-                inertia: *inertia,
+            ("open", &[anchors, spacing, inertia]) => Some(Line::Open(Opening {
+                anchors,
+                spacing,
+                inertia,
             })),
-            ("place", [position, tension, shear]) => Some(Line::Place(Bolt {
-                position: *position,
-                tension: *tension,
-                shear: *shear,
+            ("place", &[position, tension, shear]) => Some(Line::Place(Bolt {
+                position,
+                tension,
+                shear,
             })),
-            (_, [place, numbers @ ..]) => Some(Line::Mode(Mode::parse(word, numbers)?, *place)),
+            (_, &[place, ref numbers @ ..]) => Some(Line::Mode(Mode::parse(word, numbers)?, place)),
             _ => None,
         }
     }

@@ -75,16 +75,11 @@ fn follow(rt: &HostRuntime, held: &mut Option<OpenCase>, line: Line) -> anyhow::
 }
 
 fn run(rt: &HostRuntime) -> anyhow::Result<()> {
-    let mut input = BufReader::new(rt.alloc(), rt.stdin())?;
-    let mut bytes = Vec::new(rt.alloc());
+    let input = BufReader::new(rt.alloc(), rt.stdin())?;
     let mut held = None;
-    // an input need not end, so the lines are counted
-    for _ in 1..u64::MAX {
-        bytes.clear();
-        if input.read_until(b'\n', &mut bytes)? == 0 {
-            break;
-        }
-        match Line::parse(rt.alloc(), bytes.as_slice())? {
+    for line in input.split(rt.alloc(), b'\n') {
+        let line = line?;
+        match Line::parse(rt.alloc(), line.as_slice())? {
             Some(line) => follow(rt, &mut held, line)?,
             None => println!(rt; "not understood")?,
         }

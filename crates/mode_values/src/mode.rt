@@ -45,14 +45,10 @@ pub enum Mode {
 impl Mode {
     // The mode that a word and its numbers name; none where there is no such mode.
     pub(crate) fn parse(word: &str, numbers: &[u32]) -> Option<Mode> {
-        let [value, factor, rest @ ..] = numbers else {
+        let &[value, factor, ref rest @ ..] = numbers else {
             return None;
         };
-        let steel = Steel {
-            value: *value,
-            factor: *factor,
-        };
-        steel_mode(word, steel, rest).or_else(|| concrete_mode(word, numbers))
+        steel_mode(word, Steel { value, factor }, rest).or_else(|| concrete_mode(word, numbers))
     }
 }
 
@@ -62,66 +58,52 @@ fn steel_mode(word: &str, steel: Steel, rest: &[u32]) -> Option<Mode> {
         ("anchor_shear", []) => Some(Mode::Anchor(Direction::Shear, steel)),
         ("bolt_tension", []) => Some(Mode::Bolt(Direction::Tension, steel)),
         ("bolt_shear", []) => Some(Mode::Bolt(Direction::Shear, steel)),
-        ("lip_tension", [spacing]) => Some(Mode::Lip(Direction::Tension, steel, *spacing)),
-        ("lip_shear", [spacing]) => Some(Mode::Lip(Direction::Shear, steel, *spacing)),
-        ("pull_out", [strength]) => Some(Mode::PullOut(steel, *strength)),
+        ("lip_tension", &[spacing]) => Some(Mode::Lip(Direction::Tension, steel, spacing)),
+        ("lip_shear", &[spacing]) => Some(Mode::Lip(Direction::Shear, steel, spacing)),
+        ("pull_out", &[strength]) => Some(Mode::PullOut(steel, strength)),
         ("flexure", []) => Some(Mode::Flexure(steel)),
-        ("root", [a, b]) => Some(Mode::Root(steel, *a, *b)),
-        ("straight", [a, b]) => Some(Mode::Straight(steel, *a, *b)),
-        (_, [first, last, b]) => corner_mode(
-            word,
-            steel,
-            Corners {
-                first: *first,
-                last: *last,
-                b: *b,
-            },
-        ),
-        _ => None,
-    }
-}
-
-fn corner_mode(word: &str, steel: Steel, corners: Corners) -> Option<Mode> {
-    match word {
-        "anchor_corner" => Some(Mode::AnchorCorner(steel, corners)),
-        "bolt_corner" => Some(Mode::BoltCorner(steel, corners)),
+        ("root", &[a, b]) => Some(Mode::Root(steel, a, b)),
+        ("straight", &[a, b]) => Some(Mode::Straight(steel, a, b)),
+        ("anchor_corner", &[first, last, b]) => {
+            Some(Mode::AnchorCorner(steel, Corners { first, last, b }))
+        }
+        ("bolt_corner", &[first, last, b]) => {
+            Some(Mode::BoltCorner(steel, Corners { first, last, b }))
+        }
         _ => None,
     }
 }
 
 fn concrete_mode(word: &str, numbers: &[u32]) -> Option<Mode> {
     match (word, numbers) {
-        ("cone", [k, strength, depth, factor]) => Some(Mode::Cone(
-            Direction::Tension,
-            ConeBasis {
-                k: *k,
-                strength: *strength,
-                depth: *depth,
+        ("cone", &[k, strength, depth, factor]) => {
+            let basis = ConeBasis {
+                k,
+                strength,
+                depth,
                 multiple: CONE_MULTIPLE,
-            },
-            *factor,
-        )),
-        ("pry_out", [k, strength, depth, multiple, factor]) => Some(Mode::Cone(
-            Direction::Shear,
-            ConeBasis {
-                k: *k,
-                strength: *strength,
-                depth: *depth,
-                multiple: *multiple,
-            },
-            *factor,
-        )),
-        (_, [k, strength, distance, width, p, factor]) => edge_mode(
-            word,
-            EdgeBasis {
-                k: *k,
-                strength: *strength,
-                distance: *distance,
-                width: *width,
-                p: *p,
-            },
-            *factor,
-        ),
+            };
+            Some(Mode::Cone(Direction::Tension, basis, factor))
+        }
+        ("pry_out", &[k, strength, depth, multiple, factor]) => {
+            let basis = ConeBasis {
+                k,
+                strength,
+                depth,
+                multiple,
+            };
+            Some(Mode::Cone(Direction::Shear, basis, factor))
+        }
+        (_, &[k, strength, distance, width, p, factor]) => {
+            let basis = EdgeBasis {
+                k,
+                strength,
+                distance,
+                width,
+                p,
+            };
+            edge_mode(word, basis, factor)
+        }
         _ => None,
     }
 }

@@ -1,10 +1,8 @@
 -- The bending of the channel keeps what every mode owes.
-use Rattle.std.proofs.Common.{ℕ, ◌+◌, ◌*◌, ◌<◌, ◌≤◌, length, refl, mul-le-mul_right, arith}
-use Rattle.std.proofs.ByRecursion.{All-from_get_or}
-use Rattle.std.proofs.ByRecursion.{sum_by_le}
+use Rattle.std.proofs.Common.{ℕ, ◌+◌, ◌*◌, ◌<◌, ◌≤◌, length, refl, arith}
 use Rattle.fractions.specs.Fractions.{AtMost, whole, plus}
-use Rattle.fractions.proofs.Orders.{at_most_trans, plus_rises, whole_rises}
-use Rattle.bolts.specs.Bolts.{bolt_at, no_bolt}
+use Rattle.fractions.proofs.Orders.{at_most_trans, at_most_refl, plus_rises, whole_rises}
+use Rattle.bolts.specs.Bolts.{bolt_at}
 use Rattle.bolts.specs.Loads.{total_load}
 use Rattle.bolts.specs.declared.bolt.Direction.TheVariants.{Tension}
 use Rattle.bolts.proofs.Bounds.{load_bound}
@@ -14,20 +12,14 @@ use Rattle.steel_modes.specs.Quotients.{proper_factor, divided}
 use Rattle.steel_modes.specs.Spans.{part_up, part_read, moment_at, moment_read}
 use Rattle.steel_modes.specs.Flexed.{flexure_meaning}
 use Rattle.steel_modes.specs.declared.design.PartialFactor.{PartialFactor}
-use Rattle.steel_modes.specs.QuotientLemmas.{equal_below, quotient_safe, quotient_close, quotient_fits}
-use Rattle.steel_modes.specs.SpanLemmas.{sum_covers, sum_near, part_covers, part_near, part_le}
+use Rattle.failure.proofs.Quotients.{equal_below, down_safe, down_close, down_fits}
+use Rattle.steel_modes.specs.AnchoredLemmas.{close_by}
+use Rattle.steel_modes.specs.SpanLemmas.{sum_covers, sum_near, part_covers, part_near, moment_le}
 
 pub tension_le : (c : Case) → Valid c → (k : ℕ) → k < length c.bolts → (bolt_at c.bolts k).tension ≤ 200000
 tension_le c v k h = load_bound Tension (bolt_at c.bolts k) (v.sound k h).1
 
 module _ (c : Case) (v : Valid c) (i : ℕ) where
-  moment_le : moment_at c i ≤ 4000000000
-  moment_le =
-      let s = c.opening.spacing in
-      let a = bolt_at c.bolts i in
-      let all = sum_by_le (part_up c.opening.spacing (bolt_at c.bolts i)) 50000001 c.bolts (All-from_get_or (λ b. part_up c.opening.spacing (bolt_at c.bolts i) b ≤ 50000001) c.bolts no_bolt (λ k h. part_le s v.opened.wide a (bolt_at c.bolts k) v.opened.narrow (tension_le c v k h))) in
-      omega (arith, mul-le-mul_right 50000001 v.few)
-
   covers : AtMost (moment_read c i) (whole (moment_at c i))
   covers =
       let s = c.opening.spacing in
@@ -46,18 +38,18 @@ module _ (c : Case) (v : Valid c) (i : ℕ) where
       let w = total_load Tension c.bolts in
       let x = moment_read c i in
       record {
-        effect_fits = moment_le;
-        resistance_fits = quotient_fits (n * 100000) f.hundredths f.least (omega arith);
+        effect_fits = omega (arith, moment_le c.opening.spacing v.opened.wide v.opened.narrow (bolt_at c.bolts i) c.bolts v.few (tension_le c v));
+        resistance_fits = down_fits (n * 100000) f.hundredths f.least (omega arith);
         some_low_effect = (moment_read c i, refl);
         some_high_effect = (moment_read c i, refl);
         some_low_resistance = (divided (n * 100000) f, refl);
         some_high_resistance = (divided (n * 100000) f, refl);
         effect_safe = λ q e. equal_below q (moment_read c i) (whole (moment_at c i)) e covers;
-        resistance_safe = λ q e. quotient_safe (n * 100000) f.hundredths pos q e;
+        resistance_safe = λ q e. down_safe (n * 100000) f.hundredths pos q e;
         effect_close = λ _ q e.
             let few : length c.bolts ≤ total_load Tension c.bolts + 1000 = omega (arith, v.few) in
-            let le : AtMost (moment_read c i) q = omega arith in
-            at_most_trans (whole (moment_at c i)) (plus x (whole (length c.bolts))) (plus q (excess w)) near
-            (plus_rises x q (whole (length c.bolts)) (excess w) le (whole_rises _ _ few));
-        resistance_close = λ _ q e. quotient_close (n * 100000) f.hundredths pos q e;
+            close_by q x (moment_at c i) w e
+            (at_most_trans (whole (moment_at c i)) (plus x (whole (length c.bolts))) (plus x (excess w)) near
+            (plus_rises x x (whole (length c.bolts)) (excess w) (at_most_refl x) (whole_rises _ _ few)));
+        resistance_close = λ _ q e. down_close (n * 100000) f.hundredths pos q e 0;
       }

@@ -15,7 +15,7 @@ use Rattle.steel_modes.specs.Shared.{lip_above, lip_below, lip_down}
 use Rattle.steel_modes.specs.Lips.{proper_lip, lip_meaning}
 use Rattle.steel_modes.specs.Flexed.{flexure_meaning}
 use Rattle.steel_modes.specs.declared.design.PartialFactor.{PartialFactor}
-use Rattle.steel_modes.specs.QuotientLemmas.{quotient_fits}
+use Rattle.failure.proofs.Quotients.{down_fits}
 use Rattle.steel_modes.specs.AnchoredLemmas.{force_lawful, count_within}
 use Rattle.steel_modes.specs.BoltedLemmas.{load_lawful}
 use Rattle.steel_modes.specs.LipLemmas.{lip_rounds, lip_fits}
@@ -42,7 +42,7 @@ pull_out_lawful v s f r t c valid i here =
 pub bolt_steel_lawful : (d : Direction) (v : ℕ) (f : PartialFactor) → value_well v ≡ true → (c : Case) → Valid c → Lawful c (bolt_steel_meaning d v f c)
 bolt_steel_lawful d v f r c valid i here =
     load_lawful d c valid (λ _. v * 100000 / f.hundredths) (λ _. divided (v * 100000) f) i here
-    (quotient_fits (v * 100000) f.hundredths f.least (omega (arith, small v r))) refl
+    (down_fits (v * 100000) f.hundredths f.least (omega (arith, small v r))) refl
 
 pub lip_lawful : (d : Direction) (v : ℕ) (f : PartialFactor) (s : ℕ) → value_well v ≡ true → (c : Case) → Valid c → Lawful c (lip_meaning d v f s c)
 lip_lawful d v f s r c valid i here =

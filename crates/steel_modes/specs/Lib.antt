@@ -7,7 +7,6 @@ pub mod Shared
 pub mod Lips
 pub mod Spans
 pub mod Flexed
-pub mod QuotientLemmas
 pub mod Enclosing
 pub mod AnchoredLemmas
 pub mod BoltedLemmas

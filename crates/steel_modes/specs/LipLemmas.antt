@@ -1,9 +1,9 @@
 -- The resistance of the lips is the exact one rounded down, and it fits.
 use Rattle.std.proofs.Common.{◌≡◌, ℕ, ◌+◌, ◌*◌, ◌/◌, ◌<◌, ◌≤◌, Bool, true, false, cond, ltb, Some, None, Option, refl, mul-le-mul_right, arith, ltb-true}
-use native.Mathlib.Nat.{div-div-eq-div-mul, div-le_of_le-mul}
+use Rattle.std.proofs.Math.Nat.{div-div-eq-div-mul, div-le_of_le-mul}
 use Rattle.steel_modes.specs.Shared.{lip_above, lip_below, lip_down}
 use Rattle.steel_modes.specs.declared.design.PartialFactor.{PartialFactor}
-use Rattle.steel_modes.specs.QuotientLemmas.{quotient_fits}
+use Rattle.failure.proofs.Quotients.{down_fits}
 
 module _ (v : ℕ) (f : PartialFactor) (s : ℕ) where
   pub lip_rounds : (o : Option ℕ) → lip_down v f s o ≡ lip_above v s o / lip_below f s o
@@ -16,7 +16,7 @@ module _ (v : ℕ) (f : PartialFactor) (s : ℕ) where
 
   module _ (small : v ≤ 500000) where
     whole_fits : v * 100000 / f.hundredths ≤ 2000000000
-    whole_fits = quotient_fits (v * 100000) f.hundredths f.least (omega arith)
+    whole_fits = down_fits (v * 100000) f.hundredths f.least (omega arith)
 
     shared_fits : (d : ℕ) → d < s → v * 100000 * (s + d) / f.hundredths / (2 * s) ≤ 2000000000
     shared_fits d less =

@@ -1,9 +1,11 @@
 -- The moment at a bolt against the exact one, and its bound.
-use Rattle.std.proofs.Common.{◌≡◌, ℕ, ◌+◌, ◌-◌, ◌*◌, ◌%◌, ◌<◌, ◌≤◌, min, Bool, true, false, cond, List, [], ◌∷◌, map, length, sum_by, mul-le-mul, arith}
-use native.Mathlib.Nat.{div-le_of_le-mul}
+use Rattle.std.proofs.Common.{◌≡◌, ℕ, ◌+◌, ◌-◌, ◌*◌, ◌%◌, ◌<◌, ◌≤◌, min, Bool, true, false, cond, List, [], ◌∷◌, map, length, sum_by, mul-le-mul, mul-le-mul_right, arith}
+use Rattle.std.proofs.Math.Nat.{div-le_of_le-mul}
+use Rattle.std.proofs.ByRecursion.{All-from_get_or, sum_by_le}
 use Rattle.std.proofs.lemmas.List.Sums.{sum_by-cons}
 use Rattle.fractions.specs.Fractions.{Fraction, AtMost, whole, plus, total}
 use Rattle.fractions.proofs.Totals.{plus_whole, whole_plus}
+use Rattle.bolts.specs.Bolts.{bolt_at, no_bolt}
 use Rattle.bolts.specs.declared.bolt.Bolt.{Bolt}
 use Rattle.roots.specs.Division.{up}
 use Rattle.forces.specs.Readings.{quotient}
@@ -78,3 +80,9 @@ module _ (s : ℕ) (wide : 500 ≤ s) (a b : Bolt) where
             up_le (part_above s a b) (part_below s) 50000000 below_pos
             (above_le (mn b.tension) (min (offset s a) (offset s b)) (um s - greater (offset s a) (offset s b)) (omega arith) (omega (arith, offset_le a.position)) (omega arith))
         step false = omega arith
+
+-- at most 16 bolts
+pub moment_le : (s : ℕ) → 500 ≤ s → s ≤ 2500 → (a : Bolt) (bs : List Bolt) → length bs ≤ 16 → ((k : ℕ) → k < length bs → (bolt_at bs k).tension ≤ 200000) → sum_by (part_up s a) bs ≤ 800000016
+moment_le s wide narrow a bs few loaded =
+    let each = All-from_get_or (λ b. part_up s a b ≤ 50000001) bs no_bolt (λ k h. part_le s wide a (bolt_at bs k) narrow (loaded k h)) in
+    omega (arith, sum_by_le (part_up s a) 50000001 bs each, mul-le-mul_right 50000001 few)

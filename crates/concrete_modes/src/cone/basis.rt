@@ -35,8 +35,8 @@ const PARTS: u64 = 90;
 
 const LEAST_MULTIPLE_OF_DEPTH: u64 = 300;
 
-// What the multiple, in tenths, leaves over under the root of its square.
-const TENTHS: u64 = 10;
+// `square` is this many times the square of the basic value.
+const SQUARES: u64 = 10;
 
 // Hundredths of a mN in the unit of the basic value.
 const UNIT: u64 = 100;
@@ -73,7 +73,7 @@ impl Cone {
         ensures { result.hundredths ≡ cone_value self.now.basis.k self.now.basis.strength self.now.basis.depth self.now.basis.multiple * 100 }
     {
         Characteristic {
-            hundredths: square_root(self.square() / TENTHS) * UNIT,
+            hundredths: square_root(self.square() / SQUARES) * UNIT,
         }
     }
 

@@ -26,6 +26,8 @@ const LEAST_P: u32 = 100;
 
 const MOST_P: u32 = 140;
 
+const UM_IN_TENTH: u64 = 100;
+
 impl EdgeBasis {
     // Whether all numbers are in range.
     fn is_well(self) -> bool
@@ -47,7 +49,7 @@ impl EdgeBasis {
             return None;
         }
         Some(CharacteristicSpacing {
-            um: 400 * u64::from(self.distance) + 200 * u64::from(self.width),
+            um: UM_IN_TENTH * (4 * u64::from(self.distance) + 2 * u64::from(self.width)),
         })
     }
 }

@@ -15,8 +15,11 @@ use loadcase::closed::ClosedCase;
 use roots::whole::square_root;
 use steel_modes::design::{Characteristic, PartialFactor};
 
+// mN² in the unit of the square, which has k and the edge distance in tenths.
+const UNIT: u64 = 10;
+
 // The edge in shear, with the partial factor of concrete.
-// A type of its own: the edge of each edition is a failure mode beside the others.
+// A type of its own: the project has each edition's edge as a failure mode beside the others.
 #[derive(Clone, Copy)]
 pub struct FirstEdge {
     basis: EdgeBasis,
@@ -53,7 +56,7 @@ impl FirstEdge {
     {
         let k = u64::from(self.basis.k);
         let c = u64::from(self.basis.distance);
-        k * k * u64::from(self.basis.strength) * (c * c * c) * 10
+        k * k * u64::from(self.basis.strength) * (c * c * c) * UNIT
     }
 }
 

@@ -1,13 +1,12 @@
-use Rattle.std.proofs.Common.{ℕ, ◌≤◌, ap, mul-le-mul_right, rules, arith}
-use Rattle.std.proofs.ByRecursion.{All-from_get_or, sum_by_le}
+use Rattle.std.proofs.Common.{ℕ, ◌≤◌, ap, rules, arith}
 use Rattle.std.proofs.lemmas.List.{get_or_read}
 use Rattle.std.proofs.lemmas.Iterator.{YieldsList-from_slice, YieldsList-from_map}
 use Rattle.std.proofs.lemmas.Iterator.Adapters.{serves_from_places}
 use Rattle.std.proofs.lemmas.Iterator.Consumers.{YieldsList-at, fits_by_from_yields_list}
-use Rattle.bolts.specs.Bolts.{bolt_at, no_bolt}
+use Rattle.bolts.specs.Bolts.{no_bolt}
 use Rattle.bolts.specs.declared.bolt.Bolt.{Bolt}
 use Rattle.steel_modes.specs.Spans.{part_up}
-use Rattle.steel_modes.specs.SpanLemmas.{part_le}
+use Rattle.steel_modes.specs.SpanLemmas.{moment_le}
 use Rattle.steel_modes.proofs.flexure.moment.Spans.moment.Goals as goal
 
 pub sum-requires-clause-can : goal.sum-requires-clause-can
@@ -25,5 +24,5 @@ sum-requires-clause-fits c =
     let s = c.args.self in
     let bolts = c.args.bolts.now in
     let f : Bolt → ℕ = part_up s.spacing c.args.here in
-    let each = All-from_get_or (λ b. f b ≤ 50000001) bolts no_bolt (λ k h. part_le s.spacing s.wide c.args.here (bolt_at bolts k) s.narrow (c.requires.loaded k h)) in
-    fits_by_from_yields_list f bolts c.map.result _ (YieldsList-from_map _ f (YieldsList-at c.map.ensures.source (YieldsList-from_slice bolts cc)) c.map.ensures.closure (λ x r q k. search rules)) (omega (arith, sum_by_le f 50000001 bolts each, mul-le-mul_right 50000001 c.requires.few))
+    let fits = moment_le s.spacing s.wide s.narrow c.args.here bolts c.requires.few c.requires.loaded in
+    fits_by_from_yields_list f bolts c.map.result _ (YieldsList-from_map _ f (YieldsList-at c.map.ensures.source (YieldsList-from_slice bolts cc)) c.map.ensures.closure (λ x r q k. search rules)) (omega (arith, fits))
