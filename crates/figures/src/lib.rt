@@ -11,7 +11,7 @@ ghost use Rattle.figures.specs.Sheets.{SheetFigures};
 use groups::spacing::CharacteristicSpacing;
 use influence::Channel;
 
-// How many figures the record names.
+// How many figures the record names: a function needs a result, and the record is in the clause.
 const FIGURES: u8 = 9;
 
 // The definitions give every worked figure.
@@ -22,6 +22,7 @@ pub fn figures_hold() -> u8
     count_of_figures()
 }
 
+// Apart, so that the checker proves the count alone.
 fn count_of_figures() -> u8
     ensures { result ≡ 9 }
 {

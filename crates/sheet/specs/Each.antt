@@ -9,6 +9,9 @@ abbrev pub Each : (ℕ → Meaning → Type 0) → List Meaning → Type 0
 Each P [] = Unit {0}
 Each P (m ∷ ms) = P 0 m × Each (λ k. P (suc k)) ms
 
+pub record OfEach (P : ℕ → Meaning → Type 0) (ms : List Meaning) : Type 0 where
+  pub each : Each P ms
+
 abbrev pub size : List Meaning → ℕ
 size [] = 0
 size (m ∷ ms) = suc (size ms)

@@ -12,10 +12,7 @@ pub(crate) const MOST_ALLOWANCE: u32 = 600;
 pub(crate) fn are_accurate(allowances: &[u32; LINES]) -> bool
     ensures { result ≡ all_below line_count (λ k. nat_le (slice_index allowances.now k) 600) }
 {
-    for k in 0..LINES {
-        if allowances[k] > MOST_ALLOWANCE {
-            return false;
-        }
-    }
-    true
+    allowances
+        .iter()
+        .all(|allowance| *allowance <= MOST_ALLOWANCE)
 }

@@ -1,9 +1,11 @@
-// What the thirteen lines of a sheet tell, asked line by line.
-ghost use Rattle.std.specs.Prelude.{◌≡◌, ◌<◌, Err, slice_index, slice_index_or};
+// What the thirteen lines of a sheet tell, asked line by line. Each function names them anew: with a list by types, a line
+// and then the rest, goals on the lifetimes of nested borrows stay open from the ninth on.
+ghost use Rattle.std.specs.Prelude.{◌≡◌, ◌+◌, ◌<◌, Err, slice_index, slice_index_or};
 ghost use Rattle.bolts.specs.declared.refusal.Refusal.TheVariants.{NoPlace};
 ghost use Rattle.forces.specs.Cases.{Case};
 ghost use Rattle.loadcase.specs.Closed.{closed_case};
 ghost use Rattle.verdict.specs.Rows.{no_row, RowOf};
+ghost use Rattle.sheet.specs.Each.{OfEach};
 ghost use Rattle.sheet.specs.LineAnswers.{line_answer};
 
 use crate::lines::Sheet;
@@ -15,6 +17,7 @@ use verdict::answer::Shown;
 use verdict::figures::row;
 use verdict::lines::LINES;
 use verdict::row::Row;
+use verdict::sheet::RatingSheet;
 
 impl<
     M1: FailureMode,
@@ -33,19 +36,7 @@ impl<
 > Sheet<M1, M2, M3, M4, M5, M6, M7, M8, M9, M10, M11, M12, M13> {
     // The rows of the lines.
     pub(crate) fn table(&self, case: &ClosedCase) -> [Row; LINES]
-        ensures row1 { RowOf (M1.FailureMode.meaning self.now.line1 (closed_case case.now)) (slice_index_or result 0 no_row) }
-        ensures row2 { RowOf (M2.FailureMode.meaning self.now.line2 (closed_case case.now)) (slice_index_or result 1 no_row) }
-        ensures row3 { RowOf (M3.FailureMode.meaning self.now.line3 (closed_case case.now)) (slice_index_or result 2 no_row) }
-        ensures row4 { RowOf (M4.FailureMode.meaning self.now.line4 (closed_case case.now)) (slice_index_or result 3 no_row) }
-        ensures row5 { RowOf (M5.FailureMode.meaning self.now.line5 (closed_case case.now)) (slice_index_or result 4 no_row) }
-        ensures row6 { RowOf (M6.FailureMode.meaning self.now.line6 (closed_case case.now)) (slice_index_or result 5 no_row) }
-        ensures row7 { RowOf (M7.FailureMode.meaning self.now.line7 (closed_case case.now)) (slice_index_or result 6 no_row) }
-        ensures row8 { RowOf (M8.FailureMode.meaning self.now.line8 (closed_case case.now)) (slice_index_or result 7 no_row) }
-        ensures row9 { RowOf (M9.FailureMode.meaning self.now.line9 (closed_case case.now)) (slice_index_or result 8 no_row) }
-        ensures row10 { RowOf (M10.FailureMode.meaning self.now.line10 (closed_case case.now)) (slice_index_or result 9 no_row) }
-        ensures row11 { RowOf (M11.FailureMode.meaning self.now.line11 (closed_case case.now)) (slice_index_or result 10 no_row) }
-        ensures row12 { RowOf (M12.FailureMode.meaning self.now.line12 (closed_case case.now)) (slice_index_or result 11 no_row) }
-        ensures row13 { RowOf (M13.FailureMode.meaning self.now.line13 (closed_case case.now)) (slice_index_or result 12 no_row) }
+        ensures { OfEach (λ k m. RowOf m (slice_index_or result k no_row)) (⟦<Self as RatingSheet>⟧.lines self.now (closed_case case.now)) }
     {
         [
             row(&self.line1, case),
@@ -66,19 +57,7 @@ impl<
 
     // The allowances of the lines.
     pub(crate) fn allowances(&self) -> [u32; LINES]
-        ensures line1 { (c : Case) → slice_index result 0 ≡ (M1.FailureMode.meaning self.now.line1 c).allowance }
-        ensures line2 { (c : Case) → slice_index result 1 ≡ (M2.FailureMode.meaning self.now.line2 c).allowance }
-        ensures line3 { (c : Case) → slice_index result 2 ≡ (M3.FailureMode.meaning self.now.line3 c).allowance }
-        ensures line4 { (c : Case) → slice_index result 3 ≡ (M4.FailureMode.meaning self.now.line4 c).allowance }
-        ensures line5 { (c : Case) → slice_index result 4 ≡ (M5.FailureMode.meaning self.now.line5 c).allowance }
-        ensures line6 { (c : Case) → slice_index result 5 ≡ (M6.FailureMode.meaning self.now.line6 c).allowance }
-        ensures line7 { (c : Case) → slice_index result 6 ≡ (M7.FailureMode.meaning self.now.line7 c).allowance }
-        ensures line8 { (c : Case) → slice_index result 7 ≡ (M8.FailureMode.meaning self.now.line8 c).allowance }
-        ensures line9 { (c : Case) → slice_index result 8 ≡ (M9.FailureMode.meaning self.now.line9 c).allowance }
-        ensures line10 { (c : Case) → slice_index result 9 ≡ (M10.FailureMode.meaning self.now.line10 c).allowance }
-        ensures line11 { (c : Case) → slice_index result 10 ≡ (M11.FailureMode.meaning self.now.line11 c).allowance }
-        ensures line12 { (c : Case) → slice_index result 11 ≡ (M12.FailureMode.meaning self.now.line12 c).allowance }
-        ensures line13 { (c : Case) → slice_index result 12 ≡ (M13.FailureMode.meaning self.now.line13 c).allowance }
+        ensures { (c : Case) → OfEach (λ k m. slice_index result k ≡ m.allowance) (⟦<Self as RatingSheet>⟧.lines self.now c) }
     {
         [
             self.line1.allowance(),
@@ -106,19 +85,7 @@ impl<
     ) -> Result<Shown, Refusal>
         ensures outside { line ≡ 0 → result ≡ Err NoPlace }
         ensures past { 13 < line → result ≡ Err NoPlace }
-        ensures line1 { line ≡ 1 → result ≡ line_answer (M1.FailureMode.meaning self.now.line1 (closed_case case.now)) place }
-        ensures line2 { line ≡ 2 → result ≡ line_answer (M2.FailureMode.meaning self.now.line2 (closed_case case.now)) place }
-        ensures line3 { line ≡ 3 → result ≡ line_answer (M3.FailureMode.meaning self.now.line3 (closed_case case.now)) place }
-        ensures line4 { line ≡ 4 → result ≡ line_answer (M4.FailureMode.meaning self.now.line4 (closed_case case.now)) place }
-        ensures line5 { line ≡ 5 → result ≡ line_answer (M5.FailureMode.meaning self.now.line5 (closed_case case.now)) place }
-        ensures line6 { line ≡ 6 → result ≡ line_answer (M6.FailureMode.meaning self.now.line6 (closed_case case.now)) place }
-        ensures line7 { line ≡ 7 → result ≡ line_answer (M7.FailureMode.meaning self.now.line7 (closed_case case.now)) place }
-        ensures line8 { line ≡ 8 → result ≡ line_answer (M8.FailureMode.meaning self.now.line8 (closed_case case.now)) place }
-        ensures line9 { line ≡ 9 → result ≡ line_answer (M9.FailureMode.meaning self.now.line9 (closed_case case.now)) place }
-        ensures line10 { line ≡ 10 → result ≡ line_answer (M10.FailureMode.meaning self.now.line10 (closed_case case.now)) place }
-        ensures line11 { line ≡ 11 → result ≡ line_answer (M11.FailureMode.meaning self.now.line11 (closed_case case.now)) place }
-        ensures line12 { line ≡ 12 → result ≡ line_answer (M12.FailureMode.meaning self.now.line12 (closed_case case.now)) place }
-        ensures line13 { line ≡ 13 → result ≡ line_answer (M13.FailureMode.meaning self.now.line13 (closed_case case.now)) place }
+        ensures inside { OfEach (λ k m. line ≡ k + 1 → result ≡ line_answer m place) (⟦<Self as RatingSheet>⟧.lines self.now (closed_case case.now)) }
     {
         match line {
             1 => show_line(&self.line1, case, place),

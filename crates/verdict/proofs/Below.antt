@@ -1,10 +1,10 @@
 -- A test at each number below a bound.
-use Rattle.std.proofs.Common.{◌≡◌, ℕ, zero, suc, ◌+◌, ◌<◌, Bool, true, false, ◌&&◌, List, [], ◌∷◌, length, get_or, sym, refl, ap, ◌∙◌, inl, inr, add-one, zero-add, arith}
+use Rattle.std.proofs.Common.{◌≡◌, ℕ, zero, suc, ◌<◌, Bool, true, false, ◌&&◌, List, [], ◌∷◌, length, get_or, sym, refl, ap, ◌∙◌, inl, inr, zero-add, arith}
 use borrow.Author.Tests.{clash}
 use Rattle.std.specs.List.{list_all, range_with_len}
 use Rattle.std.proofs.lemmas.List.FromFn.{length-range_with_len, get_or-range_with_len}
 use Rattle.std.proofs.Math.Bool.{and_assoc, and-true}
-use Rattle.std.proofs.lemmas.Bool.{and_parts, and_cases, and_from, and_left, and_right, cases_eq}
+use Rattle.std.proofs.lemmas.Bool.{and_parts, and_cases, cases_eq}
 use Rattle.verdict.specs.Checks.{all_below}
 
 pub all_true : (n : ℕ) (t : ℕ → Bool) → all_below n t ≡ true → (i : ℕ) → i < n → t i ≡ true
@@ -20,17 +20,6 @@ all_false (suc n) t e =
       | inl before ↦ let r = all_false n t before in (r.0, omega arith, r.2)
       | inr here ↦ (n, omega arith, here)
     ]
-
-pub none_from : (n : ℕ) (t : ℕ → Bool) (i : ℕ) → i < n → t i ≡ false → all_below n t ≡ false
-none_from zero t i h e = absurd (omega arith)
-none_from (suc n) t i h e =
-    elim (cases_eq i n) [
-      | inl here ↦ and_right (all_below n t) (t n) (sym (ap t here) ∙ e)
-      | inr other ↦ and_left (all_below n t) (t n) (none_from n t i (omega arith) e)
-    ]
-
-pub all_more : (n : ℕ) (t : ℕ → Bool) → all_below n t ≡ true → t n ≡ true → all_below (n + 1) t ≡ true
-all_more n t before here = rw add-one (and_from (all_below n t) (t n) before here)
 
 -- the same test
 pub below_same : (n : ℕ) (t u : ℕ → Bool) → ((i : ℕ) → i < n → t i ≡ u i) → all_below n t ≡ all_below n u

@@ -18,7 +18,7 @@ const MOST_SQUARES: u128 = 100_000_000;
 // The most of their sum in the concrete.
 const MOST_CONCRETE: u64 = 12_000;
 
-// Of lines 4 and 8 at a bolt, the sum of the squares.
+// Whether the squares of lines 4 and 8 at a bolt are together small enough.
 fn bolt_steel_holds(rows: &[Row; LINES], place: usize) -> bool
     ensures { result ≡ nat_le (bolt_steel (row_lines rows.now) place) 100000000 }
 {
@@ -27,7 +27,7 @@ fn bolt_steel_holds(rows: &[Row; LINES], place: usize) -> bool
     tension * tension + shear * shear <= MOST_SQUARES
 }
 
-// Of the greater of lines 3 and 5 at a bolt, and line 9, the sum.
+// Whether the greater of lines 3 and 5 at a bolt, and line 9, are.
 fn channel_holds(rows: &[Row; LINES], place: usize) -> bool
     ensures { result ≡ nat_le (channel (row_lines rows.now) place) 10000 }
 {
@@ -37,7 +37,7 @@ fn channel_holds(rows: &[Row; LINES], place: usize) -> bool
     u64::from(lip.max(flexure)) + u64::from(shear) <= MOST_SUM
 }
 
-// Of the greater of lines 1 and 2 at an anchor, and the greater of lines 10 and 11, the sum.
+// Whether the greater of lines 1 and 2 at an anchor, and the greater of lines 10 and 11, are.
 fn anchor_holds(rows: &[Row; LINES], place: usize) -> bool
     ensures { result ≡ nat_le (anchor (row_lines rows.now) place) 10000 }
 {
@@ -48,7 +48,7 @@ fn anchor_holds(rows: &[Row; LINES], place: usize) -> bool
     u64::from(anchor.max(connection)) + u64::from(anchor_shear.max(connection_shear)) <= MOST_SUM
 }
 
-// Of the largest of lines 6 and 7, and the largest of lines 12 and 13, the sum.
+// Whether the largest of lines 6 and 7, and the largest of lines 12 and 13, are.
 fn concrete_holds(rows: &[Row; LINES]) -> bool
     ensures { result ≡ check_4 (row_lines rows.now) }
 {
@@ -71,7 +71,7 @@ impl CombinedCheck {
         ensures { result ≡ sound self (row_lines rows.now) }
     {
         match self {
-            CombinedCheck::BoltSteel => { (0..PLACES).all(|place| bolt_steel_holds(rows, place)) }
+            CombinedCheck::BoltSteel => (0..PLACES).all(|place| bolt_steel_holds(rows, place)),
             CombinedCheck::Channel => (0..PLACES).all(|place| channel_holds(rows, place)),
             CombinedCheck::Anchor => (0..PLACES).all(|place| anchor_holds(rows, place)),
             CombinedCheck::Concrete => concrete_holds(rows),

@@ -1,26 +1,9 @@
-use Rattle.std.proofs.Common.{◌≡◌, false, vec_items, refl, ap, arith}
-use Rattle.bolts.specs.Bolts.{no_bolt}
+use Rattle.std.proofs.Common.{◌≡◌, false, vec_items, ap}
 use Rattle.history.specs.declared.any_case.AnyCase.TheVariants.{Open}
-use Rattle.history.specs.declared.call.Call.TheVariants.{Place}
 use Rattle.history.specs.Histories.{Standing, standing, start, history}
-use Rattle.history.proofs.Steps.{history_more, history_all}
+use Rattle.history.proofs.Steps.{history_all}
 use Rattle.history.proofs.Keeping.{kept}
 use Rattle.history.proofs.calls.answer_calls.Goals as goal
-
-pub loop-call-init : goal.loop-call-init
-loop-call-init g c = let m = c.in-Ok.ensures in (m.len, m.capacity, rw m.items refl)
-
-pub answer_one-case-requires : goal.answer_one-case-requires
-answer_one-case-requires g c = omega (arith, c.loop-call.invariant.0, c.loop-call.invariant.1)
-
-pub loop-call-preserved : goal.loop-call-preserved
-loop-call-preserved g c =
-    let r = c.answer_one-case.ensures in
-    let i = c.loop-call.invariant in (
-      omega (arith, r.len, i.0),
-      omega (arith, r.capacity, i.1),
-      history_more (g.S.RatingSheet.lines c.args.sheet.now) (standing c.loop-call.case) _ c.args.calls.now c.loop-call.call-index (Place no_bolt) (vec_items c.loop-call.answers) _ _ c.loop-call-test.true r.added r.after i.2,
-    )
 
 pub returns : goal.returns
 returns g c =
