@@ -1,9 +1,8 @@
 // The strength factor of the pull-out.
-ghost use Rattle.std.specs.Prelude.{◌≡◌, IfSome, Ok};
+ghost use Rattle.std.specs.Prelude.{◌≡◌, IfSome};
 ghost use Rattle.certificate.specs.Layout.{section_of};
 ghost use Rattle.certificate.specs.Lookup.{chosen_list, list_section};
 ghost use Rattle.certificate.specs.Ranges.{Between};
-ghost use Rattle.certificate.specs.Reading.{refusal};
 ghost use Rattle.rating.specs.Strengths.{FactorIn};
 
 use certificate::certificate::Certificate;
@@ -24,7 +23,7 @@ pub(crate) fn strength_factor(
     strength: u16,
 ) -> Option<u16>
     ensures value { FactorIn (section_of certificate.now.bytes.now (list_section concrete)) strength result }
-    ensures lawful { refusal certificate.now.bytes.now ≡ Ok tt → IfSome result (λ f. Between 20 400 f) }
+    ensures lawful { IfSome result (λ f. Between 20 400 f) }
 {
     let cracked = certificate.strengths(Concrete::Cracked).bytes;
     let uncracked = certificate.strengths(Concrete::Uncracked).bytes;

@@ -1,6 +1,5 @@
 // Reading the certificate, asking the site's numbers, and looking up the strength class.
-ghost use Rattle.std.specs.Prelude.{◌≡◌, Ok};
-ghost use Rattle.certificate.specs.Reading.{refusal};
+ghost use Rattle.std.specs.Prelude.{◌≡◌};
 ghost use Rattle.rating.specs.Sheets.{SheetFor, SiteFor, PreparedOn};
 
 use crate::channel::lines_of;
@@ -28,7 +27,6 @@ fn site_for(certificate: &Certificate<'_>, numbers: SiteNumbers) -> Result<Site,
 
 // The sheet of the certificate's channel on a site; none where the strength is not listed.
 fn prepared_on(certificate: &Certificate<'_>, site: &Site) -> Option<Prepared>
-    requires { refusal certificate.now.bytes.now ≡ Ok tt }
     ensures { PreparedOn certificate.now.bytes.now site.now result }
 {
     let geometry = certificate.geometry();
