@@ -1,11 +1,9 @@
 // What a line of a job says.
 ghost use Rattle.std.specs.Prelude.{◌≡◌, Some};
-ghost use Rattle.std.specs.Option.{option_map};
-ghost use Rattle.text_pieces.specs.Pieces.{words_after};
 ghost use Rattle.job_text.specs.Lines.{job_line, said_by, site_line, place_line, lift_line, rate_line};
 ghost use Rattle.job_text.specs.Written.{Says, printed, Small};
 
-use crate::numbers::numbers_in;
+use crate::numbers::{Words, numbers_in};
 use bolts::bolt::Bolt;
 use site::numbers::SiteNumbers;
 use text_pieces::pieces::cut_word;
@@ -22,8 +20,8 @@ pub enum JobLine {
     Rate,
 }
 
-fn site_in(words: Option<&[u8]>) -> Option<JobLine>
-    ensures { result ≡ site_line (words_after (option_map (λ x. x.now) words.entry)) }
+fn site_in(words: Words<'_>) -> Option<JobLine>
+    ensures { result ≡ site_line words.entry }
 {
     let [
         strength,
@@ -51,8 +49,8 @@ fn site_in(words: Option<&[u8]>) -> Option<JobLine>
     }))
 }
 
-fn place_in(words: Option<&[u8]>) -> Option<JobLine>
-    ensures { result ≡ place_line (words_after (option_map (λ x. x.now) words.entry)) }
+fn place_in(words: Words<'_>) -> Option<JobLine>
+    ensures { result ≡ place_line words.entry }
 {
     let [position, tension, shear] = numbers_in::<3>(words)?;
     Some(JobLine::Place(Bolt {
@@ -62,23 +60,23 @@ fn place_in(words: Option<&[u8]>) -> Option<JobLine>
     }))
 }
 
-fn lift_in(words: Option<&[u8]>) -> Option<JobLine>
-    ensures { result ≡ lift_line (words_after (option_map (λ x. x.now) words.entry)) }
+fn lift_in(words: Words<'_>) -> Option<JobLine>
+    ensures { result ≡ lift_line words.entry }
 {
     let [position] = numbers_in::<1>(words)?;
     Some(JobLine::Lift(position))
 }
 
-fn rate_in(words: Option<&[u8]>) -> Option<JobLine>
-    ensures { result ≡ rate_line (words_after (option_map (λ x. x.now) words.entry)) }
+fn rate_in(words: Words<'_>) -> Option<JobLine>
+    ensures { result ≡ rate_line words.entry }
 {
     let _ = numbers_in::<0>(words)?;
     Some(JobLine::Rate)
 }
 
 // What a name says with the words after it.
-fn called(name: &[u8], words: Option<&[u8]>) -> Option<JobLine>
-    ensures { result ≡ said_by name.now (words_after (option_map (λ x. x.now) words.entry)) }
+fn called(name: &[u8], words: Words<'_>) -> Option<JobLine>
+    ensures { result ≡ said_by name.now words.entry }
 {
     match name {
         b"site" => site_in(words),
@@ -98,6 +96,6 @@ impl JobLine {
         ensures back { (j : JobLine) → Small j → job_line (printed j) ≡ Some j }
     {
         let cut = cut_word(line);
-        called(cut.word, cut.rest)
+        called(cut.word, Words { rest: cut.rest })
     }
 }
