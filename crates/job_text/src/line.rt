@@ -1,11 +1,9 @@
 // What a line of a job says.
 ghost use Rattle.std.specs.Prelude.{◌≡◌, Some};
-ghost use Rattle.std.specs.Option.{option_map};
-ghost use Rattle.text_pieces.specs.Pieces.{words_after};
-ghost use Rattle.job_text.specs.Lines.{site_of, bolt_of, said_by, job_line};
+ghost use Rattle.job_text.specs.Lines.{job_line, said_by, site_line, place_line, lift_line, rate_line};
 ghost use Rattle.job_text.specs.Written.{Says, printed, Small};
 
-use crate::numbers::numbers_in;
+use crate::numbers::{Words, numbers_in};
 use bolts::bolt::Bolt;
 use site::numbers::SiteNumbers;
 use text_pieces::pieces::cut_word;
@@ -22,9 +20,8 @@ pub enum JobLine {
     Rate,
 }
 
-// The numbers of a site, in the order of the line.
-fn site_of(numbers: [u32; 10]) -> SiteNumbers
-    ensures { result ≡ site_of numbers }
+fn site_in(words: Words<'_>) -> Option<JobLine>
+    ensures { result ≡ site_line words.entry }
 {
     let [
         strength,
@@ -37,8 +34,8 @@ fn site_of(numbers: [u32; 10]) -> SiteNumbers
         edge_factor,
         anchors,
         spacing,
-    ] = numbers;
-    SiteNumbers {
+    ] = numbers_in::<10>(words)?;
+    Some(JobLine::Site(SiteNumbers {
         strength,
         cracked,
         edge_distance,
@@ -49,36 +46,43 @@ fn site_of(numbers: [u32; 10]) -> SiteNumbers
         edge_factor,
         anchors,
         spacing,
-    }
+    }))
 }
 
-// The numbers of a bolt, in the order of the line.
-fn bolt_of(numbers: [u32; 3]) -> Bolt
-    ensures { result ≡ bolt_of numbers }
+fn place_in(words: Words<'_>) -> Option<JobLine>
+    ensures { result ≡ place_line words.entry }
 {
-    let [position, tension, shear] = numbers;
-    Bolt {
+    let [position, tension, shear] = numbers_in::<3>(words)?;
+    Some(JobLine::Place(Bolt {
         position,
         tension,
         shear,
-    }
+    }))
+}
+
+fn lift_in(words: Words<'_>) -> Option<JobLine>
+    ensures { result ≡ lift_line words.entry }
+{
+    let [position] = numbers_in::<1>(words)?;
+    Some(JobLine::Lift(position))
+}
+
+fn rate_in(words: Words<'_>) -> Option<JobLine>
+    ensures { result ≡ rate_line words.entry }
+{
+    let _ = numbers_in::<0>(words)?;
+    Some(JobLine::Rate)
 }
 
 // What a name says with the words after it.
-fn called(name: &[u8], words: Option<&[u8]>) -> Option<JobLine>
-    ensures { result ≡ said_by name.now (words_after (option_map (λ x. x.now) words.entry)) }
+fn called(name: &[u8], words: Words<'_>) -> Option<JobLine>
+    ensures { result ≡ said_by name.now words.entry }
 {
     match name {
-        b"site" => Some(JobLine::Site(site_of(numbers_in(words)?))),
-        b"place" => Some(JobLine::Place(bolt_of(numbers_in(words)?))),
-        b"lift" => {
-            let [position] = numbers_in::<1>(words)?;
-            Some(JobLine::Lift(position))
-        }
-        b"rate" => {
-            let _ = numbers_in::<0>(words)?;
-            Some(JobLine::Rate)
-        }
+        b"site" => site_in(words),
+        b"place" => place_in(words),
+        b"lift" => lift_in(words),
+        b"rate" => rate_in(words),
         _ => None,
     }
 }
@@ -92,6 +96,6 @@ impl JobLine {
         ensures back { (j : JobLine) → Small j → job_line (printed j) ≡ Some j }
     {
         let cut = cut_word(line);
-        called(cut.word, cut.rest)
+        called(cut.word, Words { rest: cut.rest })
     }
 }

@@ -1,6 +1,7 @@
 use Rattle.std.proofs.Common.{◌≡◌, ℕ, ◌<◌, ◌≤◌, List, length, Option, sym, ap, ◌∙◌, arith, length-set, Bor}
 use Rattle.std.specs.Option.{option_map}
 use Rattle.text_pieces.specs.Pieces.{words_after}
+use Rattle.job_text.specs.Counted.{exactly}
 use Rattle.job_text.proofs.NumberRuns.{read_more, read_short, read_long, read_wrong, read_all}
 use Rattle.job_text.proofs.numbers.numbers_in.Goals as goal
 
@@ -11,12 +12,14 @@ left o = words_after (option_map (λ x. x.now) o)
 pub returns-in_err-rest : goal.returns-in_err-rest
 returns-in_err-rest g c =
     c.from_residual.ensures ∙ read_short g.row.N _ _ _ _ c.loop-number.invariant.0 (ap left c.in_err-rest.was) c.loop-number-test.true
+    ∙ ap (exactly g.row.N) c.words.view_is
 
 pub returns-in_err-number : goal.returns-in_err-number
 returns-in_err-number g c =
     let e = ap left c.in_ok-rest.was ∙ c.cut_word-cut.ensures.words in
     let f = sym c.number_in.ensures.value ∙ c.in_err-number.was in
     c.from_residual-in_err-number.ensures ∙ read_wrong g.row.N _ _ _ _ _ _ c.loop-number.invariant.0 e f
+    ∙ ap (exactly g.row.N) c.words.view_is
 
 pub loop-number-preserved : goal.loop-number-preserved
 loop-number-preserved g c =
@@ -29,9 +32,11 @@ loop-number-preserved g c =
 pub returns-in-Some : goal.returns-in-Some
 returns-in-Some g c =
     read_long g.row.N _ _ _ _ c.in-Some.field-0.now c.loop-number.invariant.0 (ap left c.in-Some.is) c.loop-number-test.false
+    ∙ ap (exactly g.row.N) c.words.view_is
 
 pub returns-in-None : goal.returns-in-None
 returns-in-None g c =
     let t : g.row.N ≤ c.loop-number.number-index = c.loop-number-test.false in
     let m : c.loop-number.number-index ≤ g.row.N = c.loop-number.auto.number-index-end in
     read_all g.row.N _ _ _ _ c.loop-number.invariant.0 (ap left c.in-None.is) (omega arith) c.loop-number.invariant.1
+    ∙ ap (exactly g.row.N) c.words.view_is
