@@ -54,6 +54,7 @@ impl Characteristic {
     }
 
     // The design value: the characteristic one over the factor, down.
+    // The modes hold value and factor as two fields, no struct: contracts of the crates above read both.
     pub fn design(self, factor: PartialFactor) -> Design
         ensures { result.value ≡ self.hundredths / factor.hundredths }
     {

@@ -1,5 +1,5 @@
 // The basic resistance of the cone, and its characteristic spacing.
-ghost use Rattle.std.specs.Prelude.{◌≡◌, ◌*◌, ◌≤◌};
+ghost use Rattle.std.specs.Prelude.{◌≡◌, ◌*◌};
 ghost use Rattle.steel_modes.specs.Ranges.{Made};
 ghost use Rattle.concrete.specs.Cone.{cone_square, cone_value, cone_spacing};
 ghost use Rattle.concrete_modes.specs.Cones.{cone_well};
