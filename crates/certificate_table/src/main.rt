@@ -8,21 +8,13 @@ mod answer;
 
 use answer::Answer;
 use certificate::certificate::Certificate;
-use std::alloc::Global;
 use std::io::{BufRead, BufReader};
-
-// The bytes of a line of the table.
-fn decoded(heap: Global, line: &str) -> anyhow::Result<Vec<u8>> {
-    if line == "-" {
-        return Ok(Vec::new(heap));
-    }
-    Ok(hex::decode(heap, line)?)
-}
+use table_bytes::table_bytes;
 
 fn run(rt: &HostRuntime) -> anyhow::Result<()> {
     let heap = rt.alloc();
     for line in BufReader::new(heap, rt.stdin())?.lines(heap) {
-        let bytes = decoded(heap, line?.as_str())?;
+        let bytes = table_bytes(heap, line?.as_str())?;
         rt.println(Answer(Certificate::read(bytes.as_slice())))?;
     }
     Ok(())

@@ -8,20 +8,13 @@ use anyhow::Context;
 use job::printing::rate_job;
 use std::alloc::Global;
 use std::io::{BufRead, BufReader};
-
-// The bytes that hex digits write; a dash stands for none.
-fn decoded(heap: Global, digits: &str) -> anyhow::Result<Vec<u8>> {
-    if digits == "-" {
-        return Ok(Vec::new(heap));
-    }
-    Ok(hex::decode(heap, digits)?)
-}
+use table_bytes::table_bytes;
 
 // What is printed of one line of the table.
 fn answer(heap: Global, line: &str) -> anyhow::Result<String> {
     let (certificate, job) = line.split_once(' ').context("no space on the line")?;
-    let certificate = decoded(heap, certificate)?;
-    let job = decoded(heap, job)?;
+    let certificate = table_bytes(heap, certificate)?;
+    let job = table_bytes(heap, job)?;
     Ok(rate_job(heap, &certificate, &job)?)
 }
 

@@ -1,0 +1,29 @@
+-- What a word of a table writes.
+--   fault_of e        the fault of the table for one of the library that reads hex digits
+--   lifted r          the library's answer with that fault
+--   bytes_of w        no bytes for a dash; else two digits each, refused where one is left over, then where one is no digit,
+--                     of which upper-case letters are none
+use Rattle.std.specs.Prelude.{ℕ, ◌%◌, ◌==◌, cond, List, [], length, codes, Result, Ok, Err}
+use Rattle.std.specs.List.{list_any}
+use Rattle.std.specs.Str.{bytes_eq}
+use Rattle.std.specs.Char.{is_ascii_uppercase}
+use Rattle.hex.specs.Hex.{decode_of}
+use Rattle.hex.specs.declared.error.FromHexError.{FromHexError}
+use Rattle.hex.specs.declared.error.FromHexError.TheVariants.{InvalidHexCharacter, OddLength, InvalidStringLength, OutOfMemory}
+use Rattle.table_bytes.specs.declared.fault.TableFault.{TableFault}
+use Rattle.table_bytes.specs.declared.fault.TableFault.TheVariants.{Half, Digit, Memory}
+
+abbrev pub fault_of : FromHexError → TableFault
+fault_of (InvalidHexCharacter c i) = Digit
+fault_of OddLength = Half
+fault_of InvalidStringLength = Half
+fault_of OutOfMemory = Memory
+
+abbrev pub lifted : Result (List ℕ) FromHexError → Result (List ℕ) TableFault
+lifted (Ok bs) = Ok bs
+lifted (Err e) = Err (fault_of e)
+
+abbrev pub bytes_of : List ℕ → Result (List ℕ) TableFault
+bytes_of w =
+    cond (bytes_eq w (codes "-")) (Ok [])
+    (cond (length w % 2 == 1) (Err Half) (cond (list_any is_ascii_uppercase w) (Err Digit) (lifted (decode_of w))))

@@ -1,0 +1,41 @@
+// Bytes as the tables of worked cases write them: two lower-case hex digits for each, and a dash where there are none. The
+// crate promises that a word of a table is read as the bytes that it writes, or refused by the first fault that it has.
+#![tactic(auto)]
+
+ghost use Rattle.std.specs.Prelude.{◌≡◌, ◌⊎◌, IfOk, IfErr};
+ghost use Rattle.std.specs.Char.{is_ascii_uppercase};
+ghost use Rattle.std.specs.List.{list_any};
+ghost use Rattle.table_bytes.specs.Written.{bytes_of};
+ghost use Rattle.table_bytes.specs.declared.fault.TableFault.TheVariants.{Memory};
+
+use crate::fault::TableFault;
+use std::alloc::Global;
+
+pub mod fault;
+
+// What stands where there are no bytes.
+const NO_BYTES: &str = "-";
+
+// The bytes that a word writes.
+pub fn table_bytes(heap: Global, word: &str) -> Result<Vec<u8>, TableFault>
+    ensures ok { IfOk result (λ v. bytes_of word.now ≡ Ok v.items) }
+    ensures err { IfErr result (λ e. (e ≡ Memory) ⊎ (bytes_of word.now ≡ Err e)) }
+{
+    if word == NO_BYTES {
+        return Ok(Vec::new(heap));
+    }
+    if word.len() % 2 == 1 {
+        return Err(TableFault::Half);
+    }
+    if has_upper(word.as_bytes()) {
+        return Err(TableFault::Digit);
+    }
+    Ok(hex::decode(heap, word)?)
+}
+
+// Whether a letter is in upper case.
+fn has_upper(word: &[u8]) -> bool
+    ensures { result ≡ list_any is_ascii_uppercase word.now }
+{
+    word.iter().any(u8::is_ascii_uppercase)
+}
