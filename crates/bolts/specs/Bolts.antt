@@ -43,6 +43,7 @@ placed b xs = filter (λ x. nat_lt x.position b.position) xs ++ b ∷ filter (λ
 abbrev pub lifted : ℕ → List Bolt → List Bolt
 lifted p xs = filter (λ x. not (x.position == p)) xs
 
+-- by recursion, and not std's Contains: what is joined or parted is proved bolt by bolt, with no places
 abbrev pub Among : Bolt → List Bolt → Type 0
 Among b [] = ⊥
 Among b (x ∷ xs) = (b ≡ x) ⊎ Among b xs

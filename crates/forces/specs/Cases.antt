@@ -66,6 +66,6 @@ share_read x y o d k b = reading (mn (load_of d b)) x y (anchor_distance o b k) 
 abbrev pub force_read : Fraction → Fraction → Case → Direction → ℕ → Fraction
 force_read x y c d k = total (map (share_read x y c.opening d k) c.bolts)
 
--- x lies beyond the anchor nearest to each bolt
+-- x lies beyond the anchor nearest to each bolt; by recursion on the bolts, as the totals that it is read beside
 abbrev pub BeyondAll : Fraction → Case → Type 0
 BeyondAll x c = AllByRecursion (λ b. Beyond x (anchor_distances c.opening b)) c.bolts

@@ -43,7 +43,8 @@ impl Group<'_> {
         ensures { result ≡ part self.now.spacing.um (closed_case self.now.case.now) self.now.direction self.now.anchor j }
     {
         let force = self.case.force(self.direction, j as usize).unwrap();
-        div_up(self.weight(j) * force, Divisor { number: WHOLE })
+        let weighted = self.weight(j) * force;
+        div_up(weighted, Divisor { number: WHOLE })
     }
 
     // What all anchors give.

@@ -50,7 +50,8 @@ impl OpenCase {
         let spread = Divisor {
             number: self.spread_at(place),
         };
-        div_up(mn(bolt.load(direction)) * arm, spread)
+        let moment = mn(bolt.load(direction)) * arm;
+        div_up(moment, spread)
     }
 
     // The force on the k-th anchor.

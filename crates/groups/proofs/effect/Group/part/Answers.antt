@@ -4,8 +4,8 @@ use Rattle.groups.proofs.Weights.{weight_on_small}
 use Rattle.loadcase.specs.Closed.{closed_case}
 use Rattle.groups.proofs.effect.Group.part.Goals as goal
 
-pub overflow_mul-weight : goal.overflow_mul-weight
-overflow_mul-weight c =
+pub overflow_mul-weighted : goal.overflow_mul-weighted
+overflow_mul-weighted c =
     let x = c.args.self.now in
     let weight : c.weight.result ≤ 1000000 = omega (arith, c.weight.ensures, weight_on_small x.spacing.um x.spacing.some (closed_case x.case.now).opening x.anchor c.args.j) in
     let all = c.force.ensures.bounded.each c.args.j c.requires in
