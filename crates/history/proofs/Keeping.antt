@@ -25,7 +25,6 @@ use Rattle.history.specs.declared.call.Answer.TheVariants.{Shown, Rated, OutOfTu
 use Rattle.history.specs.Histories.{Standing, start, or_refused, answer_of, history}
 use Rattle.history.specs.Runs.{Turn, turns, rating, EachTurn, Follows}
 use Rattle.history.specs.Promises.{SafeFigures, CloseFigures, HasReadings, AtShow, AtRate, Promise}
-use Rattle.history.proofs.Lasting.{never}
 use Rattle.history.proofs.Law.{Told, each_told, length-history, never_out}
 use Rattle.history.proofs.Single.{single}
 
@@ -34,14 +33,14 @@ each_by o h f w before t rest e = let r = w before t rest e in (r.0, r.1, f r.0 
 
 -- figures are shown only where both questions were answered yes
 shown_from : (closed p q : Bool) (a b : Refusal) (f g : figures.Shown) → Shown f ≡ cond closed (or_refused Shown (granted (first_no ((p, a) ∷ (q, b) ∷ [])) g)) OutOfTurn → (p ≡ true) × (q ≡ true) × (f ≡ g)
-shown_from false p q a b f g e = never (cc)
-shown_from true false q a b f g e = never (cc)
-shown_from true true false a b f g e = never (cc)
+shown_from false p q a b f g e = cc
+shown_from true false q a b f g e = cc
+shown_from true true false a b f g e = cc
 shown_from true true true a b f g e = (refl, refl, cc)
 
 rated_from : (closed p : Bool) (a : Refusal) (v w : Verdict) → Rated v ≡ cond closed (or_refused Rated (granted (first_no ((p, a) ∷ [])) w)) OutOfTurn → (p ≡ true) × (v ≡ w)
-rated_from false p a v w e = never (cc)
-rated_from true false a v w e = never (cc)
+rated_from false p a v w e = cc
+rated_from true false a v w e = cc
 rated_from true true a v w e = (refl, cc)
 
 inside : (ms : List Meaning) (l p : ℕ) → has ms l p ≡ true → p - 1 < (line ms l).places.count

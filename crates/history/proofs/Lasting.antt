@@ -1,13 +1,9 @@
 -- What lasts over one turn more.
-use Rattle.std.proofs.Common.{◌≡◌, ℕ, ◌⊎◌, List, [], ◌∷◌, ◌++◌, sym, refl, ap, ◌∙◌, subst, inl, inr, ⊎_elim, arith}
+use Rattle.std.proofs.Common.{◌≡◌, ◌⊎◌, List, [], ◌∷◌, ◌++◌, sym, refl, ap, ◌∙◌, subst, inl, inr, ⊎_elim}
 use Rattle.std.specs.List.{AllByRecursion}
 use Rattle.std.proofs.ByRecursion.{All-push}
 use Rattle.std.proofs.lemmas.List.{append_assoc, same_from_push}
 use Rattle.history.specs.Runs.{Turn, Lasts}
-
--- two constructors are never the same
-pub never : {P : Type 0} → ◌≡◌ {A = ℕ} 0 1 → P
-never e = absurd (omega arith)
 
 unsnoc : (xs : List Turn) → (xs ≡ []) ⊎ ((r : List Turn) × (x : Turn) × (xs ≡ r ++ (x ∷ [])))
 unsnoc [] = inl refl
@@ -43,5 +39,5 @@ lasts_back h v t u s =
 
 -- nothing lasts before the first turn
 pub none_lasts : (t u : Turn) → Lasts [] t u → ⊥
-none_lasts t u ([], since, e, n) = never (cc)
-none_lasts t u (v ∷ before, since, e, n) = never (cc)
+none_lasts t u ([], since, e, n) = cc
+none_lasts t u (v ∷ before, since, e, n) = cc

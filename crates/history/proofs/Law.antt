@@ -15,7 +15,6 @@ use Rattle.history.specs.declared.call.Answer.{Answer}
 use Rattle.history.specs.declared.call.Answer.TheVariants.{Done, Refused, Shown, Rated, OutOfTurn}
 use Rattle.history.specs.Histories.{Standing, start, or_refused, answer_of, changed, after, history}
 use Rattle.history.specs.Runs.{Turn, turns, Stands, EachTurn, fits, then_closed, builds}
-use Rattle.history.proofs.Lasting.{never}
 use Rattle.history.proofs.Standings.{stands_more, stands_new}
 use Rattle.history.proofs.Validity.{valid_new, valid_more}
 
@@ -30,8 +29,8 @@ abbrev After : (Case → List Meaning) → Opening → List Turn → Turn → Ty
 After lines o h t = (st : Standing) × Stands o h st × Told lines st t
 
 run_law : (lines : Case → List Meaning) (o : Opening) (st : Standing) (past : List Turn) (calls : List Call) → Stands o past st → Valid st.case → (front : List Turn) (t : Turn) (rest : List Turn) → turns calls (history lines st calls) ≡ front ++ (t ∷ rest) → After lines o (past ++ front) t
-run_law lines o st past [] s v [] t rest e = never (cc)
-run_law lines o st past [] s v (u ∷ front) t rest e = never (cc)
+run_law lines o st past [] s v [] t rest e = cc
+run_law lines o st past [] s v (u ∷ front) t rest e = cc
 run_law lines o st past (k ∷ ks) s v [] t rest e =
     let a : Answer = answer_of lines st k in
     let u : Turn = record { call = k; answer = a } in
@@ -55,21 +54,21 @@ length-history lines st (k ∷ ks) = ap suc (length-history lines (after st k (a
 -- ---- an order that builds
 in_turn : {X : Type 0} (f : X → Answer) → ((x : X) → f x ≡ OutOfTurn → ⊥) → (r : Result X Refusal) → or_refused f r ≡ OutOfTurn → ⊥
 in_turn f n (Ok x) e = n x e
-in_turn f n (Err x) e = never (cc)
+in_turn f n (Err x) e = cc
 
 one_in : (lines : Case → List Meaning) (c : Case) (closed : Bool) (k : Call) → fits closed k ≡ true → answer_of lines (record { case = c; closed = closed }) k ≡ OutOfTurn → ⊥
-one_in lines c true (Place b) h e = never (cc)
-one_in lines c false (Place b) h e = in_turn (λ _. Done) (λ x d. never (cc)) _ e
-one_in lines c true (Lift p) h e = never (cc)
-one_in lines c false (Lift p) h e = in_turn (λ _. Done) (λ x d. never (cc)) _ e
-one_in lines c true Close h e = never (cc)
-one_in lines c false Close h e = never (cc)
-one_in lines c true Reopen h e = never (cc)
-one_in lines c false Reopen h e = never (cc)
-one_in lines c true (Show l p) h e = in_turn Shown (λ x d. never (cc)) _ e
-one_in lines c false (Show l p) h e = never (cc)
-one_in lines c true Rate h e = in_turn Rated (λ x d. never (cc)) _ e
-one_in lines c false Rate h e = never (cc)
+one_in lines c true (Place b) h e = cc
+one_in lines c false (Place b) h e = in_turn (λ _. Done) (λ x d. cc) _ e
+one_in lines c true (Lift p) h e = cc
+one_in lines c false (Lift p) h e = in_turn (λ _. Done) (λ x d. cc) _ e
+one_in lines c true Close h e = cc
+one_in lines c false Close h e = cc
+one_in lines c true Reopen h e = cc
+one_in lines c false Reopen h e = cc
+one_in lines c true (Show l p) h e = in_turn Shown (λ x d. cc) _ e
+one_in lines c false (Show l p) h e = cc
+one_in lines c true Rate h e = in_turn Rated (λ x d. cc) _ e
+one_in lines c false Rate h e = cc
 
 closed_kept : (st : Standing) (k : Call) (a : Answer) → (changed k st).closed ≡ st.closed → (after st k a).closed ≡ st.closed
 closed_kept st k Done e = e
@@ -81,10 +80,10 @@ closed_kept st k OutOfTurn e = refl
 closed_then : (lines : Case → List Meaning) (c : Case) (closed : Bool) (k : Call) → fits closed k ≡ true → (after (record { case = c; closed = closed }) k (answer_of lines (record { case = c; closed = closed }) k)).closed ≡ then_closed closed k
 closed_then lines c closed (Place b) h = closed_kept (record { case = c; closed = closed }) (Place b) _ refl
 closed_then lines c closed (Lift p) h = closed_kept (record { case = c; closed = closed }) (Lift p) _ refl
-closed_then lines c true Close h = never (cc)
+closed_then lines c true Close h = cc
 closed_then lines c false Close h = refl
 closed_then lines c true Reopen h = refl
-closed_then lines c false Reopen h = never (cc)
+closed_then lines c false Reopen h = cc
 closed_then lines c closed (Show l p) h = closed_kept (record { case = c; closed = closed }) (Show l p) _ refl
 closed_then lines c closed Rate h = closed_kept (record { case = c; closed = closed }) Rate _ refl
 

@@ -17,7 +17,7 @@ use Rattle.history.specs.declared.call.Answer.{Answer}
 use Rattle.history.specs.declared.call.Answer.TheVariants.{Done, Refused, Shown, Rated, OutOfTurn}
 use Rattle.history.specs.Histories.{Standing, start, or_refused, answer_of, after, changed}
 use Rattle.history.specs.Runs.{Turn, placing, lifting, closing, reopening, Holds, ClosedBy, Stands}
-use Rattle.history.proofs.Lasting.{never, lasts_keep, lasts_new, lasts_back, none_lasts}
+use Rattle.history.proofs.Lasting.{lasts_keep, lasts_new, lasts_back, none_lasts}
 
 -- turns that are told apart by their calls
 abbrev turn : Call → Answer → Turn
@@ -36,7 +36,7 @@ lift_is : (p q : ℕ) → lifting p ≡ lifting q → p ≡ q
 lift_is p q e = let f : Lift p ≡ Lift q = ap (λ (t : Turn). t.call) e in cc
 
 not_lifting : (b : Bolt) (p : ℕ) → placing b ≡ lifting p → ⊥
-not_lifting b p e = let f : Place b ≡ Lift p = ap (λ (t : Turn). t.call) e in never (cc)
+not_lifting b p e = let f : Place b ≡ Lift p = ap (λ (t : Turn). t.call) e in cc
 
 not_placing : (p : ℕ) (b : Bolt) → lifting p ≡ placing b → ⊥
 not_placing p b e = not_lifting b p (sym e)
@@ -94,9 +94,9 @@ closed_closing h = record { is_closed = λ e. lasts_new h closing reopening; was
 
 closed_reopening : (h : List Turn) → ClosedBy (h ++ (reopening ∷ [])) false
 closed_reopening h = record {
-  is_closed = λ e. never (cc);
+  is_closed = λ e. cc;
   was_closed = λ s.
-      ⊎_elim (λ e. let f : Reopen ≡ Close = ap (λ (t : Turn). t.call) e in never (cc)) (λ r. absurd (r.1 refl)) (lasts_back h reopening closing reopening s);
+      ⊎_elim (λ e. let f : Reopen ≡ Close = ap (λ (t : Turn). t.call) e in cc) (λ r. absurd (r.1 refl)) (lasts_back h reopening closing reopening s);
 }
 
 module _ (o : Opening) (h : List Turn) (st : Standing) (s : Stands o h st) where
@@ -112,49 +112,49 @@ module _ (o : Opening) (h : List Turn) (st : Standing) (s : Stands o h st) where
   stands_done (Place b) c = record {
     opened = s.opened;
     holds = holds_placed h st.case.bolts s.holds b (c b refl);
-    closed_by = closed_same h st.closed s.closed_by (placing b) (calls_differ (Place b) Close Done Done (λ e. never (cc))) (calls_differ (Place b) Reopen Done Done (λ e. never (cc)));
+    closed_by = closed_same h st.closed s.closed_by (placing b) (calls_differ (Place b) Close Done Done (λ e. cc)) (calls_differ (Place b) Reopen Done Done (λ e. cc));
   }
   stands_done (Lift p) c = record {
     opened = s.opened;
     holds = holds_lifted h st.case.bolts s.holds p;
-    closed_by = closed_same h st.closed s.closed_by (lifting p) (calls_differ (Lift p) Close Done Done (λ e. never (cc))) (calls_differ (Lift p) Reopen Done Done (λ e. never (cc)));
+    closed_by = closed_same h st.closed s.closed_by (lifting p) (calls_differ (Lift p) Close Done Done (λ e. cc)) (calls_differ (Lift p) Reopen Done Done (λ e. cc));
   }
   stands_done Close c = record {
     opened = s.opened;
-    holds = holds_same h st.case.bolts s.holds closing (λ b. calls_differ Close (Place b) Done Done (λ e. never (cc))) (λ p. calls_differ Close (Lift p) Done Done (λ e. never (cc)));
+    holds = holds_same h st.case.bolts s.holds closing (λ b. calls_differ Close (Place b) Done Done (λ e. cc)) (λ p. calls_differ Close (Lift p) Done Done (λ e. cc));
     closed_by = closed_closing h;
   }
   stands_done Reopen c = record {
     opened = s.opened;
-    holds = holds_same h st.case.bolts s.holds reopening (λ b. calls_differ Reopen (Place b) Done Done (λ e. never (cc))) (λ p. calls_differ Reopen (Lift p) Done Done (λ e. never (cc)));
+    holds = holds_same h st.case.bolts s.holds reopening (λ b. calls_differ Reopen (Place b) Done Done (λ e. cc)) (λ p. calls_differ Reopen (Lift p) Done Done (λ e. cc));
     closed_by = closed_reopening h;
   }
   stands_done (Show l p) c = record {
     opened = s.opened;
-    holds = holds_same h st.case.bolts s.holds (turn (Show l p) Done) (λ b. calls_differ (Show l p) (Place b) Done Done (λ e. never (cc))) (λ q. calls_differ (Show l p) (Lift q) Done Done (λ e. never (cc)));
-    closed_by = closed_same h st.closed s.closed_by (turn (Show l p) Done) (calls_differ (Show l p) Close Done Done (λ e. never (cc))) (calls_differ (Show l p) Reopen Done Done (λ e. never (cc)));
+    holds = holds_same h st.case.bolts s.holds (turn (Show l p) Done) (λ b. calls_differ (Show l p) (Place b) Done Done (λ e. cc)) (λ q. calls_differ (Show l p) (Lift q) Done Done (λ e. cc));
+    closed_by = closed_same h st.closed s.closed_by (turn (Show l p) Done) (calls_differ (Show l p) Close Done Done (λ e. cc)) (calls_differ (Show l p) Reopen Done Done (λ e. cc));
   }
   stands_done Rate c = record {
     opened = s.opened;
-    holds = holds_same h st.case.bolts s.holds (turn Rate Done) (λ b. calls_differ Rate (Place b) Done Done (λ e. never (cc))) (λ q. calls_differ Rate (Lift q) Done Done (λ e. never (cc)));
-    closed_by = closed_same h st.closed s.closed_by (turn Rate Done) (calls_differ Rate Close Done Done (λ e. never (cc))) (calls_differ Rate Reopen Done Done (λ e. never (cc)));
+    holds = holds_same h st.case.bolts s.holds (turn Rate Done) (λ b. calls_differ Rate (Place b) Done Done (λ e. cc)) (λ q. calls_differ Rate (Lift q) Done Done (λ e. cc));
+    closed_by = closed_same h st.closed s.closed_by (turn Rate Done) (calls_differ Rate Close Done Done (λ e. cc)) (calls_differ Rate Reopen Done Done (λ e. cc));
   }
 
   stands_after : (k : Call) (a : Answer) → ((b : Bolt) → k ≡ Place b → a ≡ Done → clear b.position st.case.bolts ≡ true) → Stands o (h ++ (turn k a ∷ [])) (after st k a)
   stands_after k Done c = stands_done k (λ b e. c b e refl)
-  stands_after k (Refused r) c = stands_idle k (Refused r) (λ e. never (cc))
-  stands_after k (Shown f) c = stands_idle k (Shown f) (λ e. never (cc))
-  stands_after k (Rated v) c = stands_idle k (Rated v) (λ e. never (cc))
-  stands_after k OutOfTurn c = stands_idle k OutOfTurn (λ e. never (cc))
+  stands_after k (Refused r) c = stands_idle k (Refused r) (λ e. cc)
+  stands_after k (Shown f) c = stands_idle k (Shown f) (λ e. cc)
+  stands_after k (Rated v) c = stands_idle k (Rated v) (λ e. cc)
+  stands_after k OutOfTurn c = stands_idle k OutOfTurn (λ e. cc)
 
 -- what was granted had every question answered yes
 all_yes : (qs : Asked) → or_refused (λ _. Done) (first_no qs) ≡ Done → AllByRecursion (λ q. q.0 ≡ true) qs
 all_yes [] e = tt
 all_yes ((true, r) ∷ qs) e = (refl, all_yes qs e)
-all_yes ((false, r) ∷ qs) e = never (cc)
+all_yes ((false, r) ∷ qs) e = cc
 
 done_open : (closed : Bool) (a : Answer) → cond closed OutOfTurn a ≡ Done → a ≡ Done
-done_open true a e = never (cc)
+done_open true a e = cc
 done_open false a e = e
 
 -- what is asked of a place that was done
@@ -170,5 +170,5 @@ pub stands_new : (o : Opening) → Stands o [] (start o)
 stands_new o = record {
   opened = refl;
   holds = record { rising = λ k h. absurd (omega arith); held_placed = λ b a. absurd a; placed_held = λ b s. absurd (none_lasts _ _ s) };
-  closed_by = record { is_closed = λ e. never (cc); was_closed = λ s. absurd (none_lasts _ _ s) };
+  closed_by = record { is_closed = λ e. cc; was_closed = λ s. absurd (none_lasts _ _ s) };
 }

@@ -20,7 +20,6 @@ use Rattle.history.specs.declared.call.Call.TheVariants.{Place, Lift, Close, Reo
 use Rattle.history.specs.declared.call.Answer.{Answer}
 use Rattle.history.specs.declared.call.Answer.TheVariants.{Done, Refused, Shown, Rated, OutOfTurn}
 use Rattle.history.specs.Histories.{Standing, start, answer_of, after, changed}
-use Rattle.history.proofs.Lasting.{never}
 use Rattle.history.proofs.Standings.{place_asked}
 
 -- ---- a case just opened
@@ -38,7 +37,7 @@ ranges o h =
 
 yes : (b : Bool) (e : Refusal) → first_no ((b, e) ∷ []) ≡ Ok tt → b ≡ true
 yes true e h = refl
-yes false e h = never (cc)
+yes false e h = cc
 
 pub valid_new : (o : Opening) → first_no (opening_asked o) ≡ Ok tt → Valid (start o).case
 valid_new o h =

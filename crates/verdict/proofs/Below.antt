@@ -1,6 +1,5 @@
 -- A test at each number below a bound.
 use Rattle.std.proofs.Common.{◌≡◌, ℕ, zero, suc, ◌<◌, Bool, true, false, ◌&&◌, List, [], ◌∷◌, length, get_or, sym, refl, ap, ◌∙◌, inl, inr, zero-add, arith}
-use borrow.Author.Tests.{clash}
 use Rattle.std.specs.List.{list_all, range_with_len}
 use Rattle.std.proofs.lemmas.List.FromFn.{length-range_with_len, get_or-range_with_len}
 use Rattle.std.proofs.Math.Bool.{and_assoc, and-true}
@@ -14,7 +13,7 @@ all_true (suc n) t e i h =
     elim (cases_eq i n) [ inl here ↦ ap t here ∙ both.1 | inr other ↦ all_true n t both.0 i (omega arith) ]
 
 pub all_false : (n : ℕ) (t : ℕ → Bool) → all_below n t ≡ false → (i : ℕ) × (i < n) × (t i ≡ false)
-all_false zero t e = absurd (clash (sym e))
+all_false zero t e = cc
 all_false (suc n) t e =
     elim (and_cases (all_below n t) (t n) e) [
       | inl before ↦ let r = all_false n t before in (r.0, omega arith, r.2)

@@ -1,7 +1,6 @@
 -- From the utilisations of the lines to the exact verifications.
-use Rattle.std.proofs.Common.{◌≡◌, ℕ, ◌+◌, ◌-◌, ◌*◌, ◌<◌, ◌≤◌, max, Bool, true, false, cond, leb, List, Some, None, Option, is_none, sym, refl, inl, inr, mul-le-mul_right, mul-le-mul, mul-pos, le_of_mul-le-mul_right, arith}
+use Rattle.std.proofs.Common.{◌≡◌, ℕ, ◌+◌, ◌-◌, ◌*◌, ◌<◌, ◌≤◌, max, Bool, true, false, cond, leb, List, Some, None, Option, is_none, refl, inl, inr, mul-le-mul_right, mul-le-mul, mul-pos, le_of_mul-le-mul_right, arith}
 use Rattle.std.proofs.lemmas.Bool.{cases_lt, leb-true, leb-false, and_parts, and_cases}
-use borrow.Author.Tests.{clash}
 use Rattle.fractions.specs.Fractions.{Fraction, whole}
 use Rattle.forces.specs.Cases.{Case}
 use Rattle.failure.specs.Meanings.{Meaning}
@@ -56,10 +55,10 @@ abbrev first : (a b d e : Bool) → Option CombinedCheck
 first a b d e = cond a (cond b (cond d (cond e None (Some Concrete)) (Some Anchor)) (Some Channel)) (Some BoltSteel)
 
 passed : (a b d e : Bool) → is_none (first a b d e) ≡ true → (a ≡ true) × (b ≡ true) × (d ≡ true) × (e ≡ true)
-passed false b d e h = absurd (clash h)
-passed true false d e h = absurd (clash h)
-passed true true false e h = absurd (clash h)
-passed true true true false h = absurd (clash h)
+passed false b d e h = cc
+passed true false d e h = cc
+passed true true false e h = cc
+passed true true true false h = cc
 passed true true true true h = (refl, refl, refl, refl)
 
 module _ (c : Case) (ms : List Meaning) (law : AllLawful c ms) where
@@ -249,7 +248,7 @@ module _ (c : Case) (ms : List Meaning) (law : AllLawful c ms) where
     failed_fails true false d e p q r s is = channel_fails q
     failed_fails true true false e p q r s is = anchor_fails r
     failed_fails true true true false p q r s is = concrete_fails s
-    failed_fails true true true true p q r s is = absurd (clash (sym is))
+    failed_fails true true true true p q r s is = cc
 
     -- the verdict stands against the exact figures
     pub judges_listed : Judged c ms (verdict ms).accepted

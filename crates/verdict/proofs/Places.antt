@@ -1,6 +1,5 @@
 -- The utilisation that counts at a place: of the right kind, or 0.
 use Rattle.std.proofs.Common.{◌≡◌, ℕ, zero, suc, ◌<◌, ◌≤◌, max, true, ◌&&◌, ltb, refl, ap, ◌∙◌, inl, inr, arith}
-use borrow.Author.Tests.{clash}
 use Rattle.std.proofs.lemmas.Bool.{ltb-true, lt-ltb, and_parts, and_from, cond-true, cond_both, cases_lt, cases_eq}
 use Rattle.failure.specs.Meanings.{Meaning}
 use Rattle.failure.specs.declared.places.PlaceKind.{PlaceKind}
@@ -14,13 +13,13 @@ same_kind_self Nothing = refl
 
 kind_is : (k j : PlaceKind) → same_kind k j ≡ true → j ≡ k
 kind_is Bolts Bolts e = refl
-kind_is Bolts Anchors e = absurd (clash e)
-kind_is Bolts Nothing e = absurd (clash e)
-kind_is Anchors Bolts e = absurd (clash e)
+kind_is Bolts Anchors e = cc
+kind_is Bolts Nothing e = cc
+kind_is Anchors Bolts e = cc
 kind_is Anchors Anchors e = refl
-kind_is Anchors Nothing e = absurd (clash e)
-kind_is Nothing Bolts e = absurd (clash e)
-kind_is Nothing Anchors e = absurd (clash e)
+kind_is Anchors Nothing e = cc
+kind_is Nothing Bolts e = cc
+kind_is Nothing Anchors e = cc
 kind_is Nothing Nothing e = refl
 
 -- where the line has such a place

@@ -46,6 +46,8 @@ impl Row {
     }
 }
 
+// From here on functions of thirteen rows: `verdict_of` is given a bare array, and around it a struct would say no more.
+
 // The utilisation of a line at a place of the kind; 0 where it has no such place.
 pub(crate) fn used_at(rows: &[Row; LINES], kind: PlaceKind, line: usize, place: usize) -> u32
     requires { (1 ≤ line) × (line ≤ 13) }
