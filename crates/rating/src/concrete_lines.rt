@@ -1,5 +1,5 @@
 // The lines of concrete. Lengths are in tenths of a millimetre.
-ghost use Rattle.std.specs.Prelude.{◌≡◌, ◌≤◌};
+ghost use Rattle.std.specs.Prelude.{◌≤◌};
 ghost use Rattle.certificate.specs.Ranges.{GeometryInRange};
 ghost use Rattle.rating.specs.Concrete.{IsCone, IsEdge, IsConeLine, IsEdgeLine};
 ghost use Rattle.rating.specs.Lines.{cone_factor, edge_factor};
@@ -25,7 +25,7 @@ pub(crate) struct ConcreteBasis<'a> {
     pub(crate) geometry: Geometry,
     pub(crate) factor: PartialFactor,
     pub(crate) site: &'a Site,
-    ghost in_range: { GeometryInRange geometry },
+    ghost ranged: { GeometryInRange geometry },
 }
 
 impl ConcreteBasis<'_> {
