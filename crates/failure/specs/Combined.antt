@@ -1,6 +1,7 @@
 -- The meanings of the types of reductions, where `means` is that of the mode below.
 --   straight_of means s c, root_of means s c, corner_of means s c   the mode below under the reduction
---   maybe_of means s c                                              the mode with or without a straight reduction
+--   maybe_of means s c                                              the same as straight_of where the rule is there, else the
+--                                                                   mode below as it is
 use Rattle.std.specs.Prelude.{Option}
 use Rattle.forces.specs.Cases.{Case}
 use Rattle.failure.specs.Meanings.{Meaning}

@@ -51,7 +51,7 @@ impl<M: Drop> CornerReduction<M> {
 impl Rule for Corner {
     ghost scaling = { λ r. ByRoot (λ c kind i. over (corner_distance c kind r.first r.last i) r.b r.proper) };
 
-    ghost in_range = { λ r c kind i. (omega (arith, r.least_first, r.least_last), r.small) };
+    ghost ranged = { λ r c kind i. (omega (arith, r.least_first, r.least_last), r.small) };
 
     fn raise(&self, allowance: u32) -> u32 {
         raise(allowance)

@@ -23,7 +23,7 @@ impl<M> MaybeReduced<M> {
 impl<R: Rule> Rule for Option<R> {
     ghost scaling = { maybe_scaling R.scaling };
 
-    ghost in_range = { elim [ Some r ↦ R.in_range r | None ↦ tt ] };
+    ghost ranged = { elim [ Some r ↦ R.ranged r | None ↦ tt ] };
 
     fn raise(&self, allowance: u32) -> u32 {
         match self {

@@ -1,5 +1,5 @@
 // What a failure mode is.
-ghost use Rattle.std.specs.Prelude.{◌≡◌, ℕ, ◌<◌, ◌≤◌, OnSome, option_map};
+ghost use Rattle.std.specs.Prelude.{◌≡◌, ◌<◌, ◌≤◌, OnSome, option_map};
 ghost use Rattle.forces.specs.Cases.{Case, Valid};
 ghost use Rattle.loadcase.specs.Closed.{closed_case};
 ghost use Rattle.failure.specs.Meanings.{Meaning, Lawful, Alike, effect_at, resistance_at};

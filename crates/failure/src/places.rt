@@ -11,8 +11,7 @@ use loadcase::closed::ClosedCase;
 pub enum PlaceKind {
     Bolts,
     Anchors,
-    // The mode does not apply. A kind and no Option of one: rows and checks compare kinds, and this one equals none that
-    // a check asks for.
+    // The mode does not apply; a kind and no Option of one, since rows and checks compare kinds.
     Nothing,
 }
 

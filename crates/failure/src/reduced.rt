@@ -1,5 +1,4 @@
 // A failure mode under a rule: its resistances are scaled, and all else is that of the mode below.
-ghost use Rattle.std.specs.Prelude.{◌≡◌};
 ghost use Rattle.failure.specs.Scalings.{under};
 ghost use Rattle.failure.specs.Scaled.{under_lawful, allowed_most, under_alike};
 
@@ -19,7 +18,7 @@ impl<M: FailureMode, R: Rule> FailureMode for Reduced<M, R> {
     ghost meaning = { λ s c. under (R.scaling s.rule) c (M.FailureMode.meaning s.below c) };
 
     ghost lawful = { λ s c valid i here.
-        under_lawful _ (R.scaling s.rule) c (M.FailureMode.meaning s.below c) i (R.in_range s.rule) (M.FailureMode.lawful s.below c valid i here) };
+        under_lawful _ (R.scaling s.rule) c (M.FailureMode.meaning s.below c) i (R.ranged s.rule) (M.FailureMode.lawful s.below c valid i here) };
 
     ghost few = { λ s c valid. M.FailureMode.few s.below c valid };
 

@@ -35,7 +35,7 @@ impl<M: Drop> RootReduction<M> {
 impl Rule for Root {
     ghost scaling = { λ r. ByRoot (λ _ _ _. ratio_of r.distances) };
 
-    ghost in_range = { λ r _ _ _. (r.distances.least, r.distances.small) };
+    ghost ranged = { λ r _ _ _. (r.distances.least, r.distances.small) };
 
     fn raise(&self, allowance: u32) -> u32 {
         raise(allowance)

@@ -17,5 +17,5 @@ pub trait Rule {
     fn scale(&self, below: Resistance, place: Place<'_>) -> u64
         ensures { result ≡ scaled (scaling self.now) (closed_case place.entry.case.now) place.entry.kind place.entry.index below.mn };
 
-    ghost in_range: { (r : Self) → RootsInRange (scaling r) };
+    ghost ranged: { (r : Self) → RootsInRange (scaling r) };
 }

@@ -44,7 +44,7 @@ impl<M: Drop> StraightReduction<M> {
 impl Rule for Straight {
     ghost scaling = { λ r. ByRatio (λ _ _ _. ratio_of r.distances) };
 
-    ghost in_range = { λ r. tt };
+    ghost ranged = { λ r. tt };
 
     fn raise(&self, allowance: u32) -> u32 {
         raise(allowance)

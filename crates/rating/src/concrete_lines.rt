@@ -1,5 +1,5 @@
 // The lines of concrete. Lengths are in tenths of a millimetre.
-ghost use Rattle.std.specs.Prelude.{◌≡◌, ◌≤◌};
+ghost use Rattle.std.specs.Prelude.{◌≤◌};
 ghost use Rattle.certificate.specs.Ranges.{GeometryInRange};
 ghost use Rattle.rating.specs.Concrete.{IsCone, IsEdge, IsConeLine, IsEdgeLine};
 ghost use Rattle.rating.specs.Lines.{cone_factor, edge_factor};
@@ -25,14 +25,14 @@ pub(crate) struct ConcreteBasis<'a> {
     pub(crate) geometry: Geometry,
     pub(crate) factor: PartialFactor,
     pub(crate) site: &'a Site,
-    ghost in_range: { GeometryInRange geometry },
+    ghost ranged: { GeometryInRange geometry },
 }
 
 impl ConcreteBasis<'_> {
     // The cone, with its multiple in tenths.
     fn cone(&self, direction: Direction, multiple: u16) -> Cone
         requires { (10 ≤ multiple) × (multiple ≤ 20) }
-        ensures { IsCone direction (cone_factor self.now.geometry self.now.site.now.concrete) self.now.site.now.strength self.now.geometry.embedment_depth multiple self.now.factor.hundredths result }
+        ensures { let g = self.now.geometry in let t = self.now.site.now in IsCone direction (cone_factor g t.concrete) t.strength g.embedment_depth multiple self.now.factor.hundredths result }
     {
         let k = match self.site.concrete {
             Concrete::Cracked => self.geometry.cone_factor_cracked,
@@ -49,7 +49,7 @@ impl ConcreteBasis<'_> {
 
     // The edge by the rules of an edition.
     fn edge(&self, edition: Edition) -> ByEdition<FirstEdge, SecondEdge>
-        ensures { IsEdge edition (edge_factor self.now.geometry self.now.site.now.concrete) self.now.site.now.strength self.now.site.now.edge_distance self.now.geometry.channel_width self.now.site.now.edge_factor self.now.factor.hundredths result }
+        ensures { let g = self.now.geometry in let t = self.now.site.now in IsEdge edition (edge_factor g t.concrete) t.strength t.edge_distance g.channel_width t.edge_factor self.now.factor.hundredths result }
     {
         let k = match self.site.concrete {
             Concrete::Cracked => self.geometry.edge_factor_cracked,
@@ -71,7 +71,7 @@ impl ConcreteBasis<'_> {
     // The cone in a direction under its reductions: by the edge distance, by the corners, and for dense reinforcement.
     pub(crate) fn cone_line(&self, direction: Direction, multiple: u16) -> ConeLine
         requires { (10 ≤ multiple) × (multiple ≤ 20) }
-        ensures { IsConeLine (IsCone direction (cone_factor self.now.geometry self.now.site.now.concrete) self.now.site.now.strength self.now.geometry.embedment_depth multiple self.now.factor.hundredths) self.now.geometry.embedment_depth self.now.site.now result }
+        ensures { let g = self.now.geometry in let t = self.now.site.now in IsConeLine (IsCone direction (cone_factor g t.concrete) t.strength g.embedment_depth multiple self.now.factor.hundredths) g.embedment_depth t result }
     {
         let site = self.site;
         let cone = self.cone(direction, multiple);
@@ -89,7 +89,7 @@ impl ConcreteBasis<'_> {
 
     // The edge by an edition under its reductions: by the corners, and by the member's thickness.
     pub(crate) fn edge_line(&self, edition: Edition) -> EdgeLine
-        ensures { IsEdgeLine (IsEdge edition (edge_factor self.now.geometry self.now.site.now.concrete) self.now.site.now.strength self.now.site.now.edge_distance self.now.geometry.channel_width self.now.site.now.edge_factor self.now.factor.hundredths) self.now.geometry.channel_width self.now.geometry.channel_height self.now.site.now result }
+        ensures { let g = self.now.geometry in let t = self.now.site.now in IsEdgeLine (IsEdge edition (edge_factor g t.concrete) t.strength t.edge_distance g.channel_width t.edge_factor self.now.factor.hundredths) g.channel_width g.channel_height t result }
     {
         let site = self.site;
         let edge = self.edge(edition);

@@ -37,6 +37,7 @@ fn prepared_on(certificate: &Certificate<'_>, site: &Site) -> Option<Prepared>
         spacing: site.spacing,
         inertia: geometry.moment_of_inertia,
     };
+    // a site's strength is at most 75, and u16 has no From<u32>
     let strength_factor = strength_factor(certificate, site.concrete, site.strength as u16)?;
     let edition = certificate.edition();
     let sheet = lines_of(edition, geometry, values, factors, strength_factor, site);
