@@ -1,7 +1,9 @@
 // Why a certificate is refused: which question failed, and where.
-ghost use Rattle.std.specs.Prelude.{◌≡◌};
+ghost use Rattle.std.specs.Prelude.{◌≡◌, Some};
 ghost use Rattle.certificate.specs.Asked.{fault};
-ghost use Rattle.certificate.specs.Numbers.{number};
+ghost use Rattle.certificate.specs.Numbers.{number, refused_text};
+
+use std::fmt;
 
 // What is asked of a certificate.
 #[derive(Clone, Copy, Debug, PartialEq, Eq)]
@@ -43,4 +45,14 @@ impl Question {
 pub struct CertificateFault {
     pub question: Question,
     pub byte: usize,
+}
+
+impl fmt::Display for CertificateFault {
+    ghost output = { λ fault. Some (refused_text fault) };
+
+    fn fmt<W: fmt::Write>(&self, f: &mut fmt::Formatter<W>) -> fmt::Result {
+        let question = self.question.number();
+        let byte = self.byte;
+        write!(f, "refused {question} {byte}")
+    }
 }

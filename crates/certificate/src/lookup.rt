@@ -1,6 +1,7 @@
 // Finding a strength class in the certificate's lists.
-ghost use Rattle.std.specs.Prelude.{◌≡◌, ◌+◌, ◌*◌, ◌/◌, ◌<◌, length};
+ghost use Rattle.std.specs.Prelude.{◌≡◌, ◌+◌, ◌*◌, ◌^◌, ◌<◌, ◌==◌};
 ghost use Rattle.certificate.specs.Content.{entry_at};
+ghost use Rattle.certificate.specs.Strengths.{strength_at};
 ghost use Rattle.certificate.specs.Lookup.{chosen_list, list_section, FirstAt, TailFrom, at_place};
 
 use crate::bytes::u16_at;
@@ -35,11 +36,19 @@ fn chosen<'a>(cracked: &'a [u8], uncracked: &'a [u8], concrete: Concrete) -> &'a
     }
 }
 
+// Whether the k-th entry has this strength.
+fn has_strength(list: &[u8], k: usize, strength: u16) -> bool
+    requires { 4 * k + 1 < 2 ^ 64 }
+    ensures { result ≡ (strength_at list.now k == strength) }
+{
+    u16_at(list, ENTRY_LENGTH * k) == strength
+}
+
 // The first entry with this strength.
 fn index_of(list: &[u8], strength: u16) -> Option<usize>
     ensures { FirstAt list.now strength result }
 {
-    (0..list.len() / ENTRY_LENGTH).find(|&k| u16_at(list, ENTRY_LENGTH * k) == strength)
+    (0..list.len() / ENTRY_LENGTH).find(|&k| has_strength(list, k, strength))
 }
 
 // The part of the chosen list that begins with the wanted strength class, or none where no entry has it.

@@ -15,11 +15,7 @@ impl fmt::Display for Answer<'_> {
     fn fmt<W: fmt::Write>(&self, f: &mut fmt::Formatter<W>) -> fmt::Result {
         match self.0 {
             Ok(found) => write_certificate(&found, f),
-            Err(fault) => {
-                let question = fault.question.number();
-                let byte = fault.byte;
-                write!(f, "refused {question} {byte}")
-            }
+            Err(fault) => write!(f, "{fault}"),
         }
     }
 }

@@ -5,3 +5,4 @@ pub mod Fronts
 pub mod Content
 pub mod Parsed
 pub mod Printed
+pub mod Faults

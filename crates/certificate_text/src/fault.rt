@@ -1,8 +1,10 @@
 // Why a text is refused.
-ghost use Rattle.std.specs.Prelude.{◌≡◌};
+ghost use Rattle.std.specs.Prelude.{◌≡◌, Some};
+ghost use Rattle.certificate_text.specs.Faults.{fault_text};
 ghost use Rattle.certificate_text.specs.declared.fault.TextFault.TheVariants.{Memory};
 
 use std::alloc::{AllocError, AllocFailed};
+use std::fmt;
 
 // The first line that is not understood, from 1, or no memory for the lists.
 #[derive(Clone, Copy, Debug, PartialEq, Eq)]
@@ -24,5 +26,16 @@ impl<T: Drop> From<AllocFailed<T>> for TextFault {
 
     fn from(_e: AllocFailed<T>) -> TextFault {
         TextFault::Memory // the refused entry is let go
+    }
+}
+
+impl fmt::Display for TextFault {
+    ghost output = { λ fault. Some (fault_text fault) };
+
+    fn fmt<W: fmt::Write>(&self, f: &mut fmt::Formatter<W>) -> fmt::Result {
+        match self {
+            TextFault::Line(line) => write!(f, "line {line} of the text is not understood"),
+            TextFault::Memory => write!(f, "out of memory"),
+        }
     }
 }

@@ -3,7 +3,7 @@ ghost use Rattle.std.specs.Prelude.{◌≡◌, ◌++◌, IfOk, OnOk, Ok, string_
 ghost use Rattle.certificate.specs.Content.{content_of, entries};
 ghost use Rattle.certificate_text.specs.Names.{fields};
 ghost use Rattle.certificate_text.specs.Parsed.{parsed};
-ghost use Rattle.certificate_text.specs.Printed.{fields_text, list_text, text_of, rated_content, Bytes};
+ghost use Rattle.certificate_text.specs.Printed.{entry_text, fields_text, list_text, text_of, rated_content, Bytes};
 
 use crate::names::{FIELDS, fields};
 use crate::numbers::numbers_from;
@@ -25,14 +25,21 @@ fn write_fields(out: &mut String, numbers: &[u32; FIELDS]) -> Result<(), AllocEr
     Ok(())
 }
 
+// The line of an entry.
+fn write_entry(out: &mut String, name: &str, entry: StrengthFactor) -> Result<(), AllocError>
+    ensures { OnOk result (string_bytes out.new ≡ string_bytes out.old ++ entry_text name.now entry) }
+{
+    let StrengthFactor { strength, factor } = entry;
+    write!(out, "{name} {strength} {factor}\n")
+}
+
 // The lines of a list.
 fn write_list(out: &mut String, name: &str, list: &[u8]) -> Result<(), AllocError>
     ensures text { OnOk result (string_bytes out.new ≡ string_bytes out.old ++ list_text name.now (entries list.now)) }
     ensures bytes { Bytes list.now }
 {
     for chunk in list.chunks_exact(ENTRY_LENGTH) {
-        let StrengthFactor { strength, factor } = entry_in(chunk);
-        write!(out, "{name} {strength} {factor}\n")?;
+        write_entry(out, name, entry_in(chunk))?;
     }
     Ok(())
 }

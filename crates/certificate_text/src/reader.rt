@@ -27,7 +27,8 @@ impl<'a> Reader<'a> {
         Some(number)
     }
 
-    // The entry of the next line, where it is one of the list.
+    // The entry of the next line, where it is one of the list. A step shared with `field` would need a trait for what a
+    // line says, longer than both.
     fn entry(&mut self, name: &str) -> Option<StrengthFactor>
         ensures { Steps (entry_line name.now) self.old.rest.now self.new.rest.now result }
     {

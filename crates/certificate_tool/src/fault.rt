@@ -1,5 +1,6 @@
 // Why a text or a certificate is not taken.
-ghost use Rattle.std.specs.Prelude.{◌≡◌};
+ghost use Rattle.std.specs.Prelude.{◌≡◌, Some};
+ghost use Rattle.certificate_tool.specs.Told.{told};
 ghost use Rattle.certificate_tool.specs.declared.fault.ToolFault.TheVariants.{Text, Refused, Memory};
 
 use certificate::fault::CertificateFault;
@@ -41,18 +42,13 @@ impl From<AllocError> for ToolFault {
 
 // What is printed of a fault: `refused NUMBER BYTE`, or a line about the text.
 impl fmt::Display for ToolFault {
+    ghost output = { λ fault. Some (told fault) };
+
     fn fmt<W: fmt::Write>(&self, f: &mut fmt::Formatter<W>) -> fmt::Result {
         match self {
-            ToolFault::Text(TextFault::Line(line)) => write!(
-                f,
-                "line {line} of the text is not understood"
-            ),
-            ToolFault::Refused(fault) => {
-                let number = fault.question.number();
-                let byte = fault.byte;
-                write!(f, "refused {number} {byte}")
-            }
-            ToolFault::Text(TextFault::Memory) | ToolFault::Memory => write!(f, "out of memory"),
+            ToolFault::Text(fault) => write!(f, "{fault}"),
+            ToolFault::Refused(fault) => write!(f, "{fault}"),
+            ToolFault::Memory => write!(f, "out of memory"),
         }
     }
 }

@@ -11,5 +11,5 @@ loop-chunk-preserved c =
     let s = c.in-Some.ensures.steps in
     let e = ap entries s.1.0 ∙ entries_first c.in-Some.chunk.now _ (s.1.1 ∙ c.loop-chunk.invariant.size) in
     let l = rw e at c.loop-chunk.invariant.left in
-    let w = c.in_ok-write.ensures.bytes ∙ ap (λ (x : StrengthFactor). string_bytes c.loop-chunk.out ++ entry_text c.args.name.now x) c.entry_in-strength.ensures in
+    let w = c.in_ok-write_entry.ensures ∙ ap (λ (x : StrengthFactor). string_bytes c.loop-chunk.out ++ entry_text c.args.name.now x) c.entry_in.ensures in
     record { size = s.0 ∙ c.loop-chunk.invariant.size; left = line_more _ _ _ _ _ w l }
