@@ -12,8 +12,11 @@ strength_le g f small h = square_below g 9000000 (omega arith)
 pub distance_le : (t c : ℕ) → c ≤ 5000 → t * t * t ≤ c * 10 ^ 14 → t ≤ 800000
 distance_le t c small h = cube_below t 800000 (omega arith)
 
+pub three_le : (k g c : ℕ) → k ≤ 110 → g ≤ 9000000 → c ≤ 5000 → k * g * c ≤ 4950000000000
+three_le k g c a b d = omega (arith, mul-le-mul (mul-le-mul a b) d)
+
 pub four_le : (k g c t : ℕ) → k ≤ 110 → g ≤ 9000000 → c ≤ 5000 → t ≤ 800000 → k * g * c * t ≤ 3960000000000000000
-four_le k g c t a b d e = omega (arith, mul-le-mul (mul-le-mul (mul-le-mul a b) d) e)
+four_le k g c t a b d e = omega (arith, mul-le-mul (three_le k g c a b d) e)
 
 pub cubed_le : (k f c : ℕ) → k ≤ 110 → f ≤ 75 → c ≤ 5000 → k * k * f * (c * c * c) ≤ 113437500000000000
 cubed_le k f c a b d =

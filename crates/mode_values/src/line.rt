@@ -6,6 +6,7 @@ use std::alloc::Global;
 use std::str::from_utf8;
 use text_pieces::numeral::number_in;
 
+// its own words: only open and place are those of anchor_forces
 #[derive(Clone, Copy)]
 pub enum Line {
     // Begin a case with no bolt.

@@ -14,7 +14,8 @@
 //     anchor_corner PLACE VALUE FACTOR FIRST LAST B                   and bolt_corner
 //
 // Places count from 1. A mode prints `EFFECT RESISTANCE` in mN, for bending in thousandths of a newton-metre; or
-// `no place`, `out of range`, or `refused NUMBER`.
+// `no place`, `out of range`, or `refused NUMBER`. An opening or a bolt that is refused prints `refused NUMBER`, a bolt
+// or a mode with no case open `no case`, and any other line `not understood`.
 #![tactic(auto)]
 
 mod figures;
@@ -37,7 +38,7 @@ fn open(rt: &HostRuntime, held: &mut Option<OpenCase>, opening: Opening) -> anyh
             *held = Some(case);
             Ok(())
         }
-        Err(Fault::Refused(refusal)) => Ok(println!(rt; "{}", NoFigures::from(refusal))?),
+        Err(Fault::Refused(refusal)) => Ok(println!(rt; "refused {}", refusal.number())?),
         Err(Fault::Memory) => Err(anyhow!("no memory for the case")),
     }
 }

@@ -1,5 +1,6 @@
 pub mod Ranges
 pub mod Quotients
+pub mod QuotientLemmas
 pub mod Anchored
 pub mod Bolted
 pub mod Nearby

@@ -16,7 +16,7 @@ use loadcase::closed::ClosedCase;
 #[derive(Clone, Copy)]
 pub struct AnchorSteel {
     direction: Direction,
-    // no Option: contracts of the crates above read the number, 0 included
+    // 0 where the mode has no places: the project's form
     value: u32,
     factor: PartialFactor,
     ghost ranged: { value_or_none value ≡ true },

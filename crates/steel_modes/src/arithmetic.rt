@@ -7,16 +7,15 @@ ghost use Rattle.failure.specs.Meanings.{at_place};
 ghost use Rattle.steel_modes.specs.Ranges.{value_well};
 
 use bolts::bolt::{Bolt, Direction};
+use forces::units::mn;
 
 // The least and the greatest characteristic value, in N.
 const LEAST_VALUE: u32 = 1_000;
 
 const MOST_VALUE: u32 = 500_000;
 
-// mN in 1 N.
-pub(crate) const MILLI: u64 = 1_000;
-
 // Whether a characteristic value in N is in range.
+// a function for each range: each has its own definition
 pub(crate) fn is_value_well(value: u32) -> bool
     ensures { result ≡ value_well value }
 {
@@ -28,5 +27,5 @@ pub(crate) fn bolt_load(bolts: &[Bolt], direction: Direction, place: usize) -> O
     ensures { result ≡ at_place (length bolts.now) (λ i. mn (load_of direction (bolt_at bolts.now i))) place }
 {
     let bolt = bolts.get(place)?;
-    Some(MILLI * u64::from(bolt.load(direction)))
+    Some(mn(bolt.load(direction)))
 }

@@ -11,6 +11,7 @@ const MOST_FACTOR: u32 = 300;
 const NEWTON: u64 = 100_000;
 
 // A partial factor in hundredths, 1.00 to 3.00.
+// value and factor as two fields of a mode: what each mode holds is named so in the promises of the sheet
 #[derive(Clone, Copy)]
 pub struct PartialFactor {
     hundredths: u32,
@@ -54,7 +55,6 @@ impl Characteristic {
     }
 
     // The design value: the characteristic one over the factor, down.
-    // The modes hold value and factor as two fields, no struct: contracts of the crates above read both.
     pub fn design(self, factor: PartialFactor) -> Design
         ensures { result.value ≡ self.hundredths / factor.hundredths }
     {

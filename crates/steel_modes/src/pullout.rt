@@ -4,11 +4,12 @@ ghost use Rattle.steel_modes.specs.Ranges.{Made, value_well, strength_well};
 ghost use Rattle.steel_modes.specs.Anchored.{pull_out_meaning};
 ghost use Rattle.std.proofs.Common.{rules};
 
-use crate::arithmetic::{MILLI, is_value_well};
+use crate::arithmetic::is_value_well;
 use crate::design::{Characteristic, PartialFactor};
 use bolts::bolt::Direction;
 use failure::mode::FailureMode;
 use failure::places::Places;
+use forces::units::mn;
 use loadcase::closed::ClosedCase;
 
 // The least and the greatest strength factor, in hundredths.
@@ -17,6 +18,7 @@ const LEAST_STRENGTH: u32 = 20;
 const MOST_STRENGTH: u32 = 400;
 
 // Whether a strength factor in hundredths is in range.
+// a function for each range: each has its own definition
 fn is_strength_well(strength: u32) -> bool
     ensures { result ≡ strength_well strength }
 {
@@ -55,7 +57,7 @@ impl PullOut {
         ensures { result.hundredths ≡ self.now.value * 1000 * self.now.strength }
     {
         Characteristic {
-            hundredths: u64::from(self.value) * MILLI * u64::from(self.strength),
+            hundredths: mn(self.value) * u64::from(self.strength),
         }
     }
 }

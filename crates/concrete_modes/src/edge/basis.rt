@@ -4,6 +4,7 @@ ghost use Rattle.steel_modes.specs.Ranges.{Made};
 ghost use Rattle.concrete_modes.specs.Edges.{well_of, edge_spacing};
 
 use crate::edge::EdgeBasis;
+use forces::units::um;
 use groups::spacing::CharacteristicSpacing;
 
 const LEAST_K: u32 = 10;
@@ -26,8 +27,6 @@ const LEAST_P: u32 = 100;
 
 const MOST_P: u32 = 140;
 
-const UM_IN_TENTH: u64 = 100;
-
 impl EdgeBasis {
     // Whether all numbers are in range.
     fn is_well(self) -> bool
@@ -49,7 +48,7 @@ impl EdgeBasis {
             return None;
         }
         Some(CharacteristicSpacing {
-            um: UM_IN_TENTH * (4 * u64::from(self.distance) + 2 * u64::from(self.width)),
+            um: um(4 * self.distance + 2 * self.width),
         })
     }
 }

@@ -19,7 +19,7 @@ use steel_modes::design::{Characteristic, PartialFactor};
 const UNIT: u64 = 10;
 
 // The edge in shear, with the partial factor of concrete.
-// A type of its own: the project has each edition's edge as a failure mode beside the others.
+// the project's decision: a failure mode for each edition
 #[derive(Clone, Copy)]
 pub struct FirstEdge {
     basis: EdgeBasis,

@@ -25,7 +25,7 @@ const DISTANCE_SCALE: u64 = 100_000_000_000_000;
 const BOTH_SCALES: u64 = 10_000_000_000;
 
 // The edge in shear, with the partial factor of concrete.
-// A type of its own: the project has each edition's edge as a failure mode beside the others.
+// the project's decision: a failure mode for each edition
 #[derive(Clone, Copy)]
 pub struct SecondEdge {
     basis: EdgeBasis,

@@ -8,8 +8,8 @@ ghost use Rattle.failure.specs.Meanings.{at_place};
 ghost use Rattle.steel_modes.specs.Ranges.{bending_well};
 ghost use Rattle.steel_modes.specs.Spans.{offset, part_up, moment_at};
 
-use crate::arithmetic::MILLI;
 use bolts::bolt::Bolt;
+use forces::units::{mn, um};
 use loadcase::closed::ClosedCase;
 use roots::division::{Divisor, div_up};
 
@@ -18,13 +18,11 @@ const LEAST_BENDING: u32 = 100;
 
 const MOST_BENDING: u32 = 10_000;
 
-// µm in a tenth of a millimetre.
-const TENTH: u64 = 100;
-
 // mN times µm in a thousandth of a newton-metre.
 const MILLION: u64 = 1_000_000;
 
 // Whether a resistance to bending in newton-metres is in range.
+// a function for each range: each has its own definition
 pub(crate) fn is_bending_well(value: u32) -> bool
     ensures { result ≡ bending_well value }
 {
@@ -71,7 +69,7 @@ impl Spans {
         let x = self.offset(here);
         let y = self.offset(other);
         let span = self.length();
-        let above = MILLI * u64::from(other.tension) * x.min(y) * (span - x.max(y));
+        let above = mn(other.tension) * x.min(y) * (span - x.max(y));
         let below = Divisor {
             number: span * MILLION,
         };
@@ -82,7 +80,7 @@ impl Spans {
     fn length(self) -> u64
         ensures { result ≡ um self.spacing }
     {
-        TENTH * u64::from(self.spacing)
+        um(self.spacing)
     }
 
     // How far a bolt lies from the anchor on its left.
@@ -90,6 +88,6 @@ impl Spans {
         ensures value { result ≡ offset self.spacing bolt }
         ensures inside { result < um self.spacing }
     {
-        TENTH * u64::from(bolt.position % self.spacing)
+        um(bolt.position % self.spacing)
     }
 }

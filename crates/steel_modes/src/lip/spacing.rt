@@ -15,6 +15,7 @@ const LEAST_SPACING: u32 = 200;
 const MOST_SPACING: u32 = 3_000;
 
 // Whether a spacing in tenths is in range.
+// a function for each range: each has its own definition
 pub(crate) fn is_spacing_well(spacing: u32) -> bool
     ensures { result ≡ spacing_well spacing }
 {
