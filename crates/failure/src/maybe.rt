@@ -1,4 +1,4 @@
-// A failure mode with or without a straight reduction, as one type.
+// A failure mode with or without a straight reduction, as one type; and a rule that may be there, as a rule.
 ghost use Rattle.std.specs.Prelude.{◌≡◌, Some, None};
 ghost use Rattle.failure.specs.Scalings.{maybe_scaling};
 
@@ -6,7 +6,7 @@ use crate::places::Place;
 use crate::reduced::Reduced;
 use crate::resistance::Resistance;
 use crate::rule::Rule;
-use crate::straight::Straight;
+use crate::straight::{Straight, StraightReduction};
 
 // A mode under a rule that may be there; where it is not, the mode stays as it is.
 pub type MaybeReduced<M> = Reduced<M, Option<Straight>>;
@@ -17,6 +17,15 @@ impl<M> MaybeReduced<M> {
         ensures { (result.below ≡ below) × (result.rule ≡ rule) }
     {
         Reduced { below, rule }
+    }
+}
+
+// The mode with the rule of its reduction.
+impl<M> From<StraightReduction<M>> for MaybeReduced<M> {
+    ghost from_gives = { λ s r. (r.below ≡ s.below) × (r.rule ≡ Some s.rule) };
+
+    fn from(reduction: StraightReduction<M>) -> MaybeReduced<M> {
+        MaybeReduced::new(reduction.below, Some(reduction.rule))
     }
 }
 

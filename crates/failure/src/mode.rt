@@ -14,6 +14,7 @@ pub trait FailureMode {
     ghost meaning: { Self → Case → Meaning };
 
     // How far a resistance may lie below the exact one, in millionths of it; 2,000 where nothing is promised.
+    // one number: each reduction adds to it, and it stops at 2,000
     fn allowance(&self) -> u32
         ensures { (c : Case) → result ≡ (meaning self.now c).allowance };
 

@@ -11,7 +11,7 @@ use loadcase::closed::ClosedCase;
 pub enum PlaceKind {
     Bolts,
     Anchors,
-    // The mode does not apply; a kind and no Option of one, since rows and checks compare kinds.
+    // the project's form of a mode without places: this kind, and the count 0
     Nothing,
 }
 

@@ -13,6 +13,7 @@ use crate::scaling::{Distances, raise};
 use bolts::refusal::Refusal;
 
 // The rule, with the actual distance A and the characteristic distance B in µm.
+// a rule of its own: only what it does to a resistance differs from the straight one
 #[derive(Clone, Copy)]
 pub struct Root {
     distances: Distances,

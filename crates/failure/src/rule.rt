@@ -10,6 +10,7 @@ pub trait Rule {
     ghost scaling: { Self → Scaling };
 
     // The allowance under the rule, in millionths, from that of the mode below.
+    // no default body: a rule that scales nothing, as None, raises nothing
     fn raise(&self, allowance: u32) -> u32
         ensures { result ≡ allowed (scaling self.now) allowance };
 

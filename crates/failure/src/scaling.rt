@@ -22,6 +22,7 @@ const MOST_ALLOWANCE: u32 = 2_000;
 const MILLION: u64 = 1_000_000;
 
 // Whether an actual distance is in range.
+// two tests, this and the next, each with its definition
 pub(crate) fn actual_fits(a: u64) -> bool
     ensures { result ≡ actual_fits a }
 {

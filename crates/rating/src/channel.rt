@@ -1,15 +1,17 @@
 // The thirteen lines of a channel on a site.
-ghost use Rattle.certificate.specs.Ranges.{Between, GeometryInRange, ValuesInRange, FactorsInRange};
+ghost use Rattle.certificate.specs.Content.{edition_of};
+ghost use Rattle.certificate.specs.Ranges.{Between};
 ghost use Rattle.std.specs.Prelude.{◌≡◌, true};
-ghost use Rattle.steel_modes.specs.Ranges.{factor_well, spacing_well, value_well};
+ghost use Rattle.steel_modes.specs.Ranges.{bending_well, factor_well, spacing_well, strength_well, value_or_none, value_well};
 ghost use Rattle.rating.specs.Lines.{IsSheet};
-ghost use Rattle.rating.specs.Modes.{IsLip};
+ghost use Rattle.rating.specs.Modes.{IsAnchorSteel, IsBoltSteel, IsFlexure, IsLip, IsPullOut};
+ghost use Rattle.rating.specs.Sheets.{geometry_in, values_in, factors_in};
 
 use crate::concrete_lines::ConcreteBasis;
 use crate::edition::ByEdition;
 use bolts::bolt::Direction;
 use bolts::bolt::Direction::{Shear, Tension};
-use certificate::fields::{CharacteristicValues, Edition, Geometry, PartialFactors};
+use certificate::certificate::Certificate;
 use concrete_modes::cone::Cone;
 use concrete_modes::edge::first::FirstEdge;
 use concrete_modes::edge::second::SecondEdge;
@@ -52,52 +54,39 @@ pub type ChannelSheet = Sheet<
     EdgeLine,
 >;
 
-// The lines of a channel, from an accepted certificate's numbers.
+// The lines of a certificate's channel, with the strength factor of the site's concrete.
 pub(crate) fn lines_of(
-    edition: Edition,
-    geometry: Geometry,
-    values: CharacteristicValues,
-    factors: PartialFactors,
+    certificate: &Certificate<'_>,
     strength_factor: u16,
     site: &Site,
 ) -> ChannelSheet
-    requires shape { GeometryInRange geometry }
-    requires strong { ValuesInRange values }
-    requires safe { FactorsInRange factors }
     requires listed { Between 20 400 strength_factor }
-    ensures { IsSheet edition geometry values factors strength_factor site.now result }
+    ensures { let bs = certificate.now.bytes.now in IsSheet (edition_of bs) (geometry_in bs) (values_in bs) (factors_in bs) strength_factor site.now result }
 {
+    let geometry = certificate.geometry();
+    let values = certificate.values();
+    let factors = certificate.factors();
     let concrete = ConcreteBasis {
         geometry,
         factor: factor_of(factors.concrete),
         site,
     };
-    let anchor_shear = factor_of(factors.anchor_shear);
-    let connection_shear = factor_of(factors.connection_shear);
+    let tension_spacing = geometry.lip_spacing_tension;
+    let shear_spacing = geometry.lip_spacing_shear;
     Sheet {
-        line1: AnchorSteel::new(Tension, values.anchor, factor_of(factors.anchor)).unwrap(),
-        line2: AnchorSteel::new(Tension, values.connection, factor_of(factors.connection)).unwrap(),
-        line3: lip(
-            Tension,
-            values.lip,
-            factor_of(factors.lip),
-            geometry.lip_spacing_tension,
-        ),
-        line4: BoltSteel::new(Tension, values.bolt, factor_of(factors.bolt)).unwrap(),
-        line5: Flexure::new(values.flexure, factor_of(factors.flexure)).unwrap(),
-        line6: PullOut::new(values.pullout, u32::from(strength_factor), concrete.factor).unwrap(),
+        line1: anchor(Tension, values.anchor, factors.anchor),
+        line2: anchor(Tension, values.connection, factors.connection),
+        line3: lip(Tension, values.lip, factors.lip, tension_spacing),
+        line4: bolt(Tension, values.bolt, factors.bolt),
+        line5: flexure(values.flexure, factors.flexure),
+        line6: pull_out(values.pullout, strength_factor, factors.concrete),
         line7: concrete.cone_line(Tension, WHOLE),
-        line8: BoltSteel::new(Shear, values.bolt_shear, factor_of(factors.bolt_shear)).unwrap(),
-        line9: lip(
-            Shear,
-            values.lip_shear,
-            factor_of(factors.lip_shear),
-            geometry.lip_spacing_shear,
-        ),
-        line10: AnchorSteel::new(Shear, values.anchor_shear, anchor_shear).unwrap(),
-        line11: AnchorSteel::new(Shear, values.connection_shear, connection_shear).unwrap(),
+        line8: bolt(Shear, values.bolt_shear, factors.bolt_shear),
+        line9: lip(Shear, values.lip_shear, factors.lip_shear, shear_spacing),
+        line10: anchor(Shear, values.anchor_shear, factors.anchor_shear),
+        line11: anchor(Shear, values.connection_shear, factors.connection_shear),
         line12: concrete.cone_line(Shear, geometry.pryout_factor),
-        line13: concrete.edge_line(edition),
+        line13: concrete.edge_line(certificate.edition()),
     }
 }
 
@@ -109,10 +98,42 @@ fn factor_of(hundredths: u16) -> PartialFactor
     PartialFactor::new(u32::from(hundredths)).unwrap()
 }
 
-// The lips, with their spacing in tenths.
-fn lip(direction: Direction, value: u32, factor: PartialFactor, spacing: u16) -> Lip
-    requires { (value_well value ≡ true) × (spacing_well spacing ≡ true) }
-    ensures { IsLip direction value factor.hundredths spacing result }
+// The steel of an anchor or of its connection, with the partial factor in hundredths.
+fn anchor(direction: Direction, value: u32, factor: u16) -> AnchorSteel
+    requires { (value_or_none value ≡ true) × (factor_well factor ≡ true) }
+    ensures { IsAnchorSteel direction value factor result }
 {
-    Lip::new(direction, value, factor, u32::from(spacing)).unwrap()
+    AnchorSteel::new(direction, value, factor_of(factor)).unwrap()
+}
+
+// The steel of a bolt, with the partial factor in hundredths.
+fn bolt(direction: Direction, value: u32, factor: u16) -> BoltSteel
+    requires { (value_well value ≡ true) × (factor_well factor ≡ true) }
+    ensures { IsBoltSteel direction value factor result }
+{
+    BoltSteel::new(direction, value, factor_of(factor)).unwrap()
+}
+
+// The lips, with the partial factor in hundredths and their spacing in tenths.
+fn lip(direction: Direction, value: u32, factor: u16, spacing: u16) -> Lip
+    requires { (value_well value ≡ true) × (factor_well factor ≡ true) × (spacing_well spacing ≡ true) }
+    ensures { IsLip direction value factor spacing result }
+{
+    Lip::new(direction, value, factor_of(factor), u32::from(spacing)).unwrap()
+}
+
+// The bending, with the value in newton-metres and the partial factor in hundredths.
+fn flexure(value: u32, factor: u16) -> Flexure
+    requires { (bending_well value ≡ true) × (factor_well factor ≡ true) }
+    ensures { IsFlexure value factor result }
+{
+    Flexure::new(value, factor_of(factor)).unwrap()
+}
+
+// The pull-out, with the strength factor and the partial factor in hundredths.
+fn pull_out(value: u32, strength: u16, factor: u16) -> PullOut
+    requires { (value_well value ≡ true) × (strength_well strength ≡ true) × (factor_well factor ≡ true) }
+    ensures { IsPullOut value strength factor result }
+{
+    PullOut::new(value, u32::from(strength), factor_of(factor)).unwrap()
 }

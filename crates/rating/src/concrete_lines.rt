@@ -6,7 +6,7 @@ ghost use Rattle.rating.specs.Lines.{cone_factor, edge_factor};
 
 use crate::channel::{ConeLine, EdgeLine};
 use crate::edition::ByEdition;
-use crate::reductions::{by_density, um_of};
+use crate::reductions::by_density;
 use bolts::bolt::Direction;
 use certificate::fields::{Edition, Geometry};
 use certificate::lookup::Concrete;
@@ -16,6 +16,7 @@ use concrete_modes::edge::first::FirstEdge;
 use concrete_modes::edge::second::SecondEdge;
 use failure::corner::CornerReduction;
 use failure::root::RootReduction;
+use forces::units::um;
 use site::site::Site;
 use steel_modes::design::PartialFactor;
 
@@ -34,6 +35,7 @@ impl ConcreteBasis<'_> {
         requires { (10 ≤ multiple) × (multiple ≤ 20) }
         ensures { let g = self.now.geometry in let t = self.now.site.now in IsCone direction (cone_factor g t.concrete) t.strength g.embedment_depth multiple self.now.factor.hundredths result }
     {
+        // over other fields than the edge's: a shared match would be longer
         let k = match self.site.concrete {
             Concrete::Cracked => self.geometry.cone_factor_cracked,
             Concrete::Uncracked => self.geometry.cone_factor_uncracked,
@@ -51,6 +53,7 @@ impl ConcreteBasis<'_> {
     fn edge(&self, edition: Edition) -> ByEdition<FirstEdge, SecondEdge>
         ensures { let g = self.now.geometry in let t = self.now.site.now in IsEdge edition (edge_factor g t.concrete) t.strength t.edge_distance g.channel_width t.edge_factor self.now.factor.hundredths result }
     {
+        // over other fields than the cone's: a shared match would be longer
         let k = match self.site.concrete {
             Concrete::Cracked => self.geometry.edge_factor_cracked,
             Concrete::Uncracked => self.geometry.edge_factor_uncracked,
@@ -76,9 +79,9 @@ impl ConcreteBasis<'_> {
         let site = self.site;
         let cone = self.cone(direction, multiple);
         let edge = cone.characteristic_edge_distance();
-        let by_edge = RootReduction::new(cone, um_of(site.edge_distance), edge).unwrap();
-        let left = um_of(site.left_corner);
-        let right = um_of(site.right_corner);
+        let by_edge = RootReduction::new(cone, um(site.edge_distance), edge).unwrap();
+        let left = um(site.left_corner);
+        let right = um(site.right_corner);
         let by_corners = CornerReduction::new(by_edge, left, right, edge).unwrap();
         by_density(
             by_corners,
@@ -93,12 +96,12 @@ impl ConcreteBasis<'_> {
     {
         let site = self.site;
         let edge = self.edge(edition);
-        let twice = 2 * um_of(site.edge_distance);
-        let width = um_of(u32::from(self.geometry.channel_width));
-        let height = um_of(u32::from(self.geometry.channel_height));
-        let left = um_of(site.left_corner);
-        let right = um_of(site.right_corner);
+        let twice = 2 * um(site.edge_distance);
+        let width = um(u32::from(self.geometry.channel_width));
+        let height = um(u32::from(self.geometry.channel_height));
+        let left = um(site.left_corner);
+        let right = um(site.right_corner);
         let by_corners = CornerReduction::new(edge, left, right, twice + width).unwrap();
-        RootReduction::new(by_corners, um_of(site.thickness), twice + 2 * height).unwrap()
+        RootReduction::new(by_corners, um(site.thickness), twice + 2 * height).unwrap()
     }
 }

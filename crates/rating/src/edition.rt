@@ -8,6 +8,7 @@ use failure::mode::FailureMode;
 use failure::places::Places;
 use loadcase::closed::ClosedCase;
 
+// a type of this crate: the trait and the kit's Either are both of other crates
 #[derive(Drop)]
 pub enum ByEdition<A, B> {
     First(A),

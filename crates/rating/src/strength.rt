@@ -9,6 +9,7 @@ use certificate::certificate::Certificate;
 use certificate::lookup::{Concrete, entry_of, lookup};
 
 // The factor of a strength class in the chosen list; none where no entry has the class.
+// the lookup over both lists is the certificate's
 fn factor_in(cracked: &[u8], uncracked: &[u8], concrete: Concrete, strength: u16) -> Option<u16>
     ensures { FactorIn (chosen_list cracked.now uncracked.now concrete) strength result }
 {

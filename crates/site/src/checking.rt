@@ -10,7 +10,7 @@ use bolts::refusal::Refusal;
 use certificate::fields::Edition;
 use certificate::lookup::Concrete;
 
-// A line writes the state as a number; a site has it as a kind.
+// A line writes the state as a number; a site has it as a kind; no TryFrom: the range was asked before.
 fn state_of(cracked: u32) -> Concrete
     ensures { result ≡ state_of cracked }
 {

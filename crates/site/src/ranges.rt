@@ -5,7 +5,7 @@ ghost use Rattle.site.specs.Ranges.{between, flag, strength_known, edge_factor_k
 use crate::numbers::SiteNumbers;
 use certificate::fields::Edition;
 
-// The least and the greatest number of a range; the value of a constant may not be one of std's inclusive ranges.
+// The least and the greatest number of a range; `RangeInclusive::new` is a call, and a constant's value may not have one.
 #[derive(Clone, Copy)]
 struct Range {
     least: u32,

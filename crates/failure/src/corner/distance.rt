@@ -8,9 +8,8 @@ ghost use Rattle.failure.specs.Corners.{position_of, corner_distance};
 use crate::corner::Corner;
 use crate::places::{Place, PlaceKind};
 use bolts::bolt::Bolt;
+use forces::units::um;
 use loadcase::closed::ClosedCase;
-
-const UM_IN_TENTH: u64 = 100;
 
 impl Corner {
     // The distance of the nearer corner from a place: each corner's from its anchor, and the anchor's from the place.
@@ -31,7 +30,7 @@ fn last_anchor(case: &ClosedCase) -> u64
     ensures within { result ≤ 2750000 }
 {
     let opening = case.opening();
-    UM_IN_TENTH * (u64::from(opening.anchors - 1) * u64::from(opening.spacing))
+    um((opening.anchors - 1) * opening.spacing)
 }
 
 impl Place<'_> {
@@ -41,15 +40,16 @@ impl Place<'_> {
         ensures within { result ≤ 10000000000000 }
     {
         let tenths = match self.kind {
-            PlaceKind::Bolts => u64::from(bolt_position(self.case.bolts(), self.index)),
-            PlaceKind::Anchors => self.index as u64 * u64::from(self.case.opening().spacing),
+            PlaceKind::Bolts => bolt_position(self.case.bolts(), self.index),
+            // below 16; u32 has no From<usize>
+            PlaceKind::Anchors => self.index as u32 * self.case.opening().spacing,
             PlaceKind::Nothing => 0,
         };
-        UM_IN_TENTH * tenths
+        um(tenths)
     }
 }
 
-// The position of the k-th bolt, from 0, in tenths; 0 past the last.
+// The position of the k-th bolt, from 0, in tenths; past the end 0, as the definition has it.
 fn bolt_position(bolts: &[Bolt], k: usize) -> u32
     ensures { result ≡ position_at bolts.now k }
 {

@@ -30,8 +30,6 @@ fn prepared_on(certificate: &Certificate<'_>, site: &Site) -> Option<Prepared>
     ensures { PreparedOn certificate.now.bytes.now site.now result }
 {
     let geometry = certificate.geometry();
-    let values = certificate.values();
-    let factors = certificate.factors();
     let opening = Opening {
         anchors: site.anchors,
         spacing: site.spacing,
@@ -39,8 +37,7 @@ fn prepared_on(certificate: &Certificate<'_>, site: &Site) -> Option<Prepared>
     };
     // a site's strength is at most 75, and u16 has no From<u32>
     let strength_factor = strength_factor(certificate, site.concrete, site.strength as u16)?;
-    let edition = certificate.edition();
-    let sheet = lines_of(edition, geometry, values, factors, strength_factor, site);
+    let sheet = lines_of(certificate, strength_factor, site);
     Some(Prepared { sheet, opening })
 }
 
