@@ -74,17 +74,26 @@ pub(crate) fn lines_of(
     let tension_spacing = geometry.lip_spacing_tension;
     let shear_spacing = geometry.lip_spacing_shear;
     Sheet {
-        line1: anchor(Tension, values.anchor, factors.anchor),
-        line2: anchor(Tension, values.connection, factors.connection),
-        line3: lip(Tension, values.lip, factors.lip, tension_spacing),
-        line4: bolt(Tension, values.bolt, factors.bolt),
-        line5: flexure(values.flexure, factors.flexure),
-        line6: pull_out(values.pullout, strength_factor, factors.concrete),
+        line1: anchor(Tension, values.anchor, factor_of(factors.anchor)),
+        line2: anchor(Tension, values.connection, factor_of(factors.connection)),
+        line3: lip(Tension, values.lip, factor_of(factors.lip), tension_spacing),
+        line4: bolt(Tension, values.bolt, factor_of(factors.bolt)),
+        line5: flexure(values.flexure, factor_of(factors.flexure)),
+        line6: pull_out(values.pullout, strength_factor, concrete.factor),
         line7: concrete.cone_line(Tension, WHOLE),
-        line8: bolt(Shear, values.bolt_shear, factors.bolt_shear),
-        line9: lip(Shear, values.lip_shear, factors.lip_shear, shear_spacing),
-        line10: anchor(Shear, values.anchor_shear, factors.anchor_shear),
-        line11: anchor(Shear, values.connection_shear, factors.connection_shear),
+        line8: bolt(Shear, values.bolt_shear, factor_of(factors.bolt_shear)),
+        line9: lip(
+            Shear,
+            values.lip_shear,
+            factor_of(factors.lip_shear),
+            shear_spacing,
+        ),
+        line10: anchor(Shear, values.anchor_shear, factor_of(factors.anchor_shear)),
+        line11: anchor(
+            Shear,
+            values.connection_shear,
+            factor_of(factors.connection_shear),
+        ),
         line12: concrete.cone_line(Shear, geometry.pryout_factor),
         line13: concrete.edge_line(certificate.edition()),
     }
@@ -98,42 +107,44 @@ fn factor_of(hundredths: u16) -> PartialFactor
     PartialFactor::new(u32::from(hundredths)).unwrap()
 }
 
-// The steel of an anchor or of its connection, with the partial factor in hundredths.
-fn anchor(direction: Direction, value: u32, factor: u16) -> AnchorSteel
-    requires { (value_or_none value ≡ true) × (factor_well factor ≡ true) }
-    ensures { IsAnchorSteel direction value factor result }
+// From here on a function for each mode, so that each is proved alone: what it asks of a number its constructor asks.
+
+// The steel of an anchor or of its connection.
+fn anchor(direction: Direction, value: u32, factor: PartialFactor) -> AnchorSteel
+    requires { value_or_none value ≡ true }
+    ensures { IsAnchorSteel direction value factor.hundredths result }
 {
-    AnchorSteel::new(direction, value, factor_of(factor)).unwrap()
+    AnchorSteel::new(direction, value, factor).unwrap()
 }
 
-// The steel of a bolt, with the partial factor in hundredths.
-fn bolt(direction: Direction, value: u32, factor: u16) -> BoltSteel
-    requires { (value_well value ≡ true) × (factor_well factor ≡ true) }
-    ensures { IsBoltSteel direction value factor result }
+// The steel of a bolt.
+fn bolt(direction: Direction, value: u32, factor: PartialFactor) -> BoltSteel
+    requires { value_well value ≡ true }
+    ensures { IsBoltSteel direction value factor.hundredths result }
 {
-    BoltSteel::new(direction, value, factor_of(factor)).unwrap()
+    BoltSteel::new(direction, value, factor).unwrap()
 }
 
-// The lips, with the partial factor in hundredths and their spacing in tenths.
-fn lip(direction: Direction, value: u32, factor: u16, spacing: u16) -> Lip
-    requires { (value_well value ≡ true) × (factor_well factor ≡ true) × (spacing_well spacing ≡ true) }
-    ensures { IsLip direction value factor spacing result }
+// The lips, with their spacing in tenths.
+fn lip(direction: Direction, value: u32, factor: PartialFactor, spacing: u16) -> Lip
+    requires { (value_well value ≡ true) × (spacing_well spacing ≡ true) }
+    ensures { IsLip direction value factor.hundredths spacing result }
 {
-    Lip::new(direction, value, factor_of(factor), u32::from(spacing)).unwrap()
+    Lip::new(direction, value, factor, u32::from(spacing)).unwrap()
 }
 
-// The bending, with the value in newton-metres and the partial factor in hundredths.
-fn flexure(value: u32, factor: u16) -> Flexure
-    requires { (bending_well value ≡ true) × (factor_well factor ≡ true) }
-    ensures { IsFlexure value factor result }
+// The bending, with the value in newton-metres.
+fn flexure(value: u32, factor: PartialFactor) -> Flexure
+    requires { bending_well value ≡ true }
+    ensures { IsFlexure value factor.hundredths result }
 {
-    Flexure::new(value, factor_of(factor)).unwrap()
+    Flexure::new(value, factor).unwrap()
 }
 
-// The pull-out, with the strength factor and the partial factor in hundredths.
-fn pull_out(value: u32, strength: u16, factor: u16) -> PullOut
-    requires { (value_well value ≡ true) × (strength_well strength ≡ true) × (factor_well factor ≡ true) }
-    ensures { IsPullOut value strength factor result }
+// The pull-out, with the strength factor in hundredths.
+fn pull_out(value: u32, strength: u16, factor: PartialFactor) -> PullOut
+    requires { (value_well value ≡ true) × (strength_well strength ≡ true) }
+    ensures { IsPullOut value strength factor.hundredths result }
 {
-    PullOut::new(value, u32::from(strength), factor_of(factor)).unwrap()
+    PullOut::new(value, u32::from(strength), factor).unwrap()
 }
