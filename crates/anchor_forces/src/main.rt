@@ -59,6 +59,7 @@ impl From<io::Error> for Trouble {
 fn print_figures(rt: &HostRuntime, case: &ClosedCase) -> io::Result<()> {
     let length = case.influence_length();
     println!(rt; "influence {length}")?;
+    // by number: a force is asked by its anchor's
     for k in 0..case.opening().anchors {
         let anchor = k + 1;
         let tension = case.force(Direction::Tension, k as usize).unwrap();
@@ -99,15 +100,10 @@ fn complain(rt: &HostRuntime, trouble: Trouble, number: u64) -> anyhow::Result<(
 }
 
 fn run(rt: &HostRuntime) -> anyhow::Result<()> {
-    let mut input = BufReader::new(rt.alloc(), rt.stdin())?;
-    let mut bytes = Vec::new(rt.alloc());
+    let input = BufReader::new(rt.alloc(), rt.stdin())?;
     let mut held = None;
-    // an input need not end, so the lines are counted
-    for number in 1..u64::MAX {
-        bytes.clear();
-        if input.read_until(b'\n', &mut bytes)? == 0 {
-            break;
-        }
+    for (number, bytes) in (1u64..).zip(input.split(rt.alloc(), b'\n')) {
+        let bytes = bytes?;
         let line = Line::parse(bytes.as_slice()).ok_or(Trouble::NotUnderstood);
         if let Err(trouble) = line.and_then(|line| follow(rt, &mut held, line)) {
             complain(rt, trouble, number)?;

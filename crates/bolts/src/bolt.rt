@@ -1,4 +1,4 @@
-// One bolt, and its load in a direction.
+// A load's direction, and one bolt: its load, whether it lies before a position, and whether its loads are in range.
 ghost use Rattle.std.specs.Prelude.{◌≡◌, nat_lt};
 ghost use Rattle.bolts.specs.Loads.{load_of, loaded};
 

@@ -1,7 +1,7 @@
 -- The forces that are reckoned for a case.
 --   force_in d f      the force in a direction, of those on an anchor
---   Reckoned c fs     the first of the list are the forces on the case's anchors
-use Rattle.std.specs.Prelude.{◌≡◌, ℕ, ◌<◌, List, slice_index_or}
+--   Reckoned c fs     the list is of the forces on the case's anchors
+use Rattle.std.specs.Prelude.{◌≡◌, ℕ, ◌<◌, List, length, slice_index_or}
 use Rattle.bolts.specs.declared.bolt.Direction.{Direction}
 use Rattle.bolts.specs.declared.bolt.Direction.TheVariants.{Tension, Shear}
 use Rattle.forces.specs.Cases.{Case}
@@ -18,4 +18,5 @@ no_forces = record { tension = 0; shear = 0 }
 
 abbrev pub Reckoned : Case → List AnchorForces → Type 0
 Reckoned c fs =
-    (k : ℕ) → k < c.opening.anchors → slice_index_or fs k no_forces ≡ record { tension = force c Tension k; shear = force c Shear k }
+    (length fs ≡ c.opening.anchors)
+    × ((k : ℕ) → k < c.opening.anchors → slice_index_or fs k no_forces ≡ record { tension = force c Tension k; shear = force c Shear k })

@@ -2,14 +2,15 @@
 ghost use Rattle.loadcase.specs.Held.{case_of};
 ghost use Rattle.loadcase.specs.Reckoned.{Reckoned};
 
-use crate::anchor::{AnchorForces, MOST_ANCHORS};
+use crate::anchor::{AnchorForces, ROOM};
 use crate::open::OpenCase;
+use arrayvec::ArrayVec;
 
 mod methods;
 
 #[derive(Drop)]
 pub struct ClosedCase {
     within: OpenCase,
-    forces: [AnchorForces; MOST_ANCHORS as usize],
-    ghost reckoned: { Reckoned (case_of within) forces },
+    forces: ArrayVec<AnchorForces, ROOM>,
+    ghost reckoned: { Reckoned (case_of within) forces.items },
 }

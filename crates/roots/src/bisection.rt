@@ -33,6 +33,7 @@ pub(crate) fn root<P: Power>(power: &P, x: u64) -> u64
 {
     let mut low: u64 = 0;
     let mut high: u64 = 1 << P::BITS;
+    // by hand: partition_point takes a slice, not numbers
     while high - low > 1 {
         let mid = low + (high - low) / 2;
         if power.of(mid) <= u128::from(x) {

@@ -1,4 +1,4 @@
-// Whole roots, rounded down or up: one search by halving, proved once, and the properties that it is used with.
+// Whole roots, rounded down or up: one search by halving, proved once, and the powers that it is used with.
 // And division that rounds up.
 #![tactic(auto)]
 

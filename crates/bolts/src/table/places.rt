@@ -1,4 +1,4 @@
-// The questions on a list of bolts, and the place of a position in it.
+// What a list of bolts tells: whether a position is clear, where it belongs, which bolt lies there, and the load sum.
 ghost use Rattle.std.specs.Prelude.{◌≡◌, ℕ, ◌<◌, ◌≤◌, length};
 ghost use Rattle.bolts.specs.Bolts.{position_at, Spaced, apart, clear};
 ghost use Rattle.bolts.specs.Loads.{total_load};

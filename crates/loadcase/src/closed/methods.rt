@@ -67,8 +67,7 @@ impl ClosedCase {
         ensures hardly_above { IfSome result (HardlyAbove (closed_case self.now) direction k) }
         ensures bounded { Bounded (closed_case self.now) direction }
     {
-        let on_anchors = &self.forces[..self.opening().anchors as usize];
-        on_anchors
+        self.forces
             .get(k)
             .map(|forces| forces.in_direction(direction))
     }

@@ -7,8 +7,9 @@ ghost use Rattle.forces.specs.Exact.{force};
 ghost use Rattle.loadcase.specs.Held.{opening_of, bolts_of, case_of};
 ghost use Rattle.loadcase.specs.Reckoned.{Reckoned};
 
-use crate::anchor::{AnchorForces, MOST_ANCHORS};
+use crate::anchor::{AnchorForces, ROOM};
 use crate::open::OpenCase;
+use arrayvec::ArrayVec;
 use bolts::bolt::{Bolt, Direction};
 use forces::units::{mn, um};
 use roots::division::{Divisor, div_up};
@@ -68,15 +69,15 @@ impl OpenCase {
     }
 
     // The forces on all anchors.
-    pub(crate) fn forces(&self) -> [AnchorForces; MOST_ANCHORS as usize]
-        ensures { Reckoned (case_of self.now) result }
+    pub(crate) fn forces(&self) -> ArrayVec<AnchorForces, ROOM>
+        ensures { Reckoned (case_of self.now) result.items }
     {
-        let mut all = [AnchorForces::default(); MOST_ANCHORS as usize];
+        let mut all = ArrayVec::new();
         for k in 0..self.anchors {
-            all[k as usize] = AnchorForces {
+            all.push(AnchorForces {
                 tension: self.force(Direction::Tension, k),
                 shear: self.force(Direction::Shear, k),
-            };
+            });
         }
         all
     }

@@ -7,4 +7,5 @@ pub returns : goal.returns
 returns c =
     let facts = c.binary_search_by_key.ensures in
     let by_position = facts.position (λ b. b.position) (answers_always _ _ _ (λ f a r g called. search rules)) in
-    rw c.ok.ensures.value (searched c.args.bolts.now c.requires c.args.position _ facts.bound by_position)
+    let there = searched c.args.bolts.now c.requires c.args.position _ facts.bound by_position in
+    search rules

@@ -7,4 +7,4 @@ use Rattle.loadcase.proofs.open.OpenCase.forces.Given as goal
 
 abbrev pub invariant-loop-k : goal.invariant-loop-k
 invariant-loop-k l =
-    (length l.all ≡ 12) × ((j : ℕ) → j < l.k → get_or l.all j no_forces ≡ record { tension = force (case_of l.self) Tension j; shear = force (case_of l.self) Shear j })
+    (length l.all.items ≡ l.k) × ((j : ℕ) → j < l.k → get_or l.all.items j no_forces ≡ record { tension = force (case_of l.self) Tension j; shear = force (case_of l.self) Shear j })
