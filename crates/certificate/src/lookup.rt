@@ -44,7 +44,7 @@ fn has_strength(list: &[u8], k: usize, strength: u16) -> bool
     u16_at(list, ENTRY_LENGTH * k) == strength
 }
 
-// The first entry with this strength.
+// The first entry with this strength, from the front. Any list: nothing here says that it rises.
 fn index_of(list: &[u8], strength: u16) -> Option<usize>
     ensures { FirstAt list.now strength result }
 {
