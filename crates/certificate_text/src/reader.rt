@@ -58,6 +58,7 @@ impl<'a> Reader<'a> {
         ensures { Listed name.now self.old.rest.now self.new.rest.now result }
     {
         let mut entries = Vec::new(heap);
+        // a loop: from_fn would hold the reader
         while let Some(entry) = self.entry(name) {
             entries.push(entry)?;
         }
