@@ -5,8 +5,12 @@ ghost use Rattle.certificate_text.specs.Fields.{field_of};
 
 pub(crate) const FIELDS: usize = 32;
 
-// Where the numbers of each part begin, after the edition.
+// Where the numbers of each part begin; the moment of inertia is the last of the geometry.
+pub(crate) const EDITION_AT: usize = 0;
+
 pub(crate) const GEOMETRY_AT: usize = 1;
+
+pub(crate) const MOMENT_AT: usize = 11;
 
 pub(crate) const VALUES_AT: usize = 12;
 
