@@ -48,6 +48,7 @@ fn has_strength(list: &[u8], k: usize, strength: u16) -> bool
 fn index_of(list: &[u8], strength: u16) -> Option<usize>
     ensures { FirstAt list.now strength result }
 {
+    // by number: with `position` over the chunks it stayed open that chunk k is entry k
     (0..list.len() / ENTRY_LENGTH).find(|&k| has_strength(list, k, strength))
 }
 
