@@ -48,6 +48,7 @@ impl<'a> Reader<'a> {
         ensures { Fixed self.old.rest.now self.new.rest.now result }
     {
         let mut numbers = [0; FIELDS];
+        // by number: k places the number and names the line
         for (k, field) in fields().iter().enumerate() {
             numbers[k] = self.field(field).ok_or(TextFault::Line(k + 1))?;
         }
