@@ -7,7 +7,7 @@ use std::array;
 pub(crate) fn byte_at(bytes: &[u8], at: usize) -> u8
     ensures { result ≡ slice_index bytes.now at }
 {
-    bytes.get(at).copied().unwrap_or(0)
+    bytes.get(at).copied().unwrap_or(0) // past the end 0, as the definition has it
 }
 
 pub(crate) fn u16_at(bytes: &[u8], at: usize) -> u16

@@ -53,7 +53,8 @@ pub struct Geometry {
     pub moment_of_inertia: u32,
 }
 
-// Characteristic values in N, flexure in Nm; 0 for anchor or connection in shear: there is nothing to verify.
+// Characteristic values in N, flexure in Nm; 0 for anchor or connection in shear, as the file has it: there is
+// nothing to verify.
 #[derive(Clone, Copy)]
 pub struct CharacteristicValues {
     pub anchor: u32,

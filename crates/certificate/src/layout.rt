@@ -21,6 +21,9 @@ pub(crate) const RESISTANCE_LENGTH: u16 = 60;
 // The bytes of an entry of a list: two of strength, two of factor.
 pub const ENTRY_LENGTH: usize = 4;
 
+// The same as a number of a pair; `as`: From is not for constants.
+const ENTRY_SIZE: u16 = ENTRY_LENGTH as u16;
+
 const LEAST_LIST: u16 = 4;
 
 const MOST_LIST: u16 = 256;
@@ -62,7 +65,7 @@ impl Section {
             Section::Geometry => length == GEOMETRY_LENGTH,
             Section::Resistance => length == RESISTANCE_LENGTH,
             Section::Cracked | Section::Uncracked => {
-                (LEAST_LIST..=MOST_LIST).contains(&length) && length % ENTRY_LENGTH as u16 == 0
+                (LEAST_LIST..=MOST_LIST).contains(&length) && length % ENTRY_SIZE == 0
             }
         }
     }

@@ -44,10 +44,11 @@ fn has_strength(list: &[u8], k: usize, strength: u16) -> bool
     u16_at(list, ENTRY_LENGTH * k) == strength
 }
 
-// The first entry with this strength.
+// The first entry with this strength, from the front. Any list: nothing here says that it rises.
 fn index_of(list: &[u8], strength: u16) -> Option<usize>
     ensures { FirstAt list.now strength result }
 {
+    // by number: with `position` over the chunks it stayed open that chunk k is entry k
     (0..list.len() / ENTRY_LENGTH).find(|&k| has_strength(list, k, strength))
 }
 

@@ -22,7 +22,7 @@ pub struct FieldRule {
     pub width: Width,
     pub least: u32,
     pub most: u32,
-    pub or_zero: bool,
+    pub or_zero: bool, // a flag: a rule stands as a row of the format
 }
 
 impl FieldRule {

@@ -12,11 +12,15 @@ use crate::layout::{
 };
 use crate::numbers::{factors_list, geometry_shorts, values_list};
 
-const RESISTANCE_PLACE: u16 = HEADER_LENGTH as u16 + GEOMETRY_LENGTH;
+// The head's length as a number of a pair; `as`: From is not for constants.
+const HEADER_SIZE: u16 = HEADER_LENGTH as u16;
+
+const RESISTANCE_PLACE: u16 = HEADER_SIZE + GEOMETRY_LENGTH;
 
 const CRACKED_PLACE: u16 = RESISTANCE_PLACE + RESISTANCE_LENGTH;
 
 // How many entries the longest certificate has room for, in both lists together.
+// `as`: From is not for constants.
 const MOST_ENTRIES: usize = (MOST_BYTES - CRACKED_PLACE as usize) / ENTRY_LENGTH;
 
 // The pairs of a certificate whose lists have so many entries.
@@ -24,10 +28,11 @@ fn pairs(cracked: usize, uncracked: usize) -> [u16; 8]
     requires { cracked + uncracked ≤ 998 }
     ensures { result ≡ pairs cracked uncracked }
 {
-    let cracked = (ENTRY_LENGTH * cracked) as u16;
-    let uncracked = (ENTRY_LENGTH * uncracked) as u16;
+    // at most 3,992 bytes: each length fits
+    let cracked = u16::try_from(ENTRY_LENGTH * cracked).unwrap();
+    let uncracked = u16::try_from(ENTRY_LENGTH * uncracked).unwrap();
     [
-        HEADER_LENGTH as u16,
+        HEADER_SIZE,
         GEOMETRY_LENGTH,
         RESISTANCE_PLACE,
         RESISTANCE_LENGTH,

@@ -1,7 +1,8 @@
-// Reads a table of certificates, lawful and damaged, one on each line of standard input as hex digits, and prints what the proved reader answers:
-// all the numbers of a certificate, or the question that refuses it and the byte. An empty file stands in the table as a line with one dash.
-// The table and the expected answers come from an implementation of the format in another language, `reference/certificate.py`, so a
-// difference shows that one of the two departs from the documents.
+// Reads a table of certificates, lawful and damaged, one on each line of standard input as hex digits, and prints what
+// the proved reader answers: all the numbers of a certificate, or the question that refuses it and the byte. An empty
+// file stands in the table as a line with one dash. The table and the expected answers come from an implementation of
+// the format in another language, `reference/certificate.py`, so a difference shows that one of the two departs from
+// the documents.
 #![tactic(auto)]
 
 mod answer;

@@ -56,3 +56,15 @@ pub record Steps {A : Type 0} (read : List ℕ → Option A) (before after : Lis
   pub past : is_some r ≡ true → lines after ≡ drop 1 (lines before)
   pub shorter : is_some r ≡ true → length after < length before
   pub stays : is_some r ≡ false → after ≡ before
+
+-- what is read from the first line, by a predicate of the lines and what is read from each
+abbrev pub NextReads : {A : Type 0} → (List ℕ → Option A → Type 0) → List (List ℕ) → Option A → Type 0
+NextReads reads [] r = r ≡ None
+NextReads reads (l ∷ ls) r = reads l r
+
+-- the same step, told by that predicate
+pub record StepsBy {A : Type 0} (reads : List ℕ → Option A → Type 0) (before after : List ℕ) (r : Option A) : Type 0 where
+  pub says : NextReads reads (lines before) r
+  pub past : is_some r ≡ true → lines after ≡ drop 1 (lines before)
+  pub shorter : is_some r ≡ true → length after < length before
+  pub stays : is_some r ≡ false → after ≡ before

@@ -2,8 +2,16 @@
 ghost use Rattle.std.specs.Prelude.{◌≡◌};
 ghost use Rattle.certificate_text.specs.Printed.{edition_number, numbers_from};
 
-use crate::names::FIELDS;
+use crate::names::{EDITION_AT, FACTORS_AT, FIELDS, GEOMETRY_AT, MOMENT_AT, VALUES_AT};
 use certificate::fields::{CharacteristicValues, Edition, Geometry, PartialFactors};
+use certificate::numbers::{factors_list, geometry_shorts, values_list};
+
+// Numbers of 16 bits, held as numbers of 32.
+fn widened(shorts: [u16; 10]) -> [u32; 10]
+    ensures { result ≡ shorts }
+{
+    shorts.map(u32::from)
+}
 
 pub(crate) fn numbers_from(
     edition: Edition,
@@ -13,38 +21,11 @@ pub(crate) fn numbers_from(
 ) -> [u32; FIELDS]
     ensures { result ≡ numbers_from (edition_number edition) g v f }
 {
-    [
-        u32::from(u8::from(edition)),
-        u32::from(g.embedment_depth),
-        u32::from(g.channel_width),
-        u32::from(g.channel_height),
-        u32::from(g.cone_factor_cracked),
-        u32::from(g.cone_factor_uncracked),
-        u32::from(g.edge_factor_cracked),
-        u32::from(g.edge_factor_uncracked),
-        u32::from(g.pryout_factor),
-        u32::from(g.lip_spacing_tension),
-        u32::from(g.lip_spacing_shear),
-        g.moment_of_inertia,
-        v.anchor,
-        v.connection,
-        v.lip,
-        v.bolt,
-        v.flexure,
-        v.pullout,
-        v.bolt_shear,
-        v.lip_shear,
-        v.anchor_shear,
-        v.connection_shear,
-        u32::from(f.anchor),
-        u32::from(f.connection),
-        u32::from(f.lip),
-        u32::from(f.bolt),
-        u32::from(f.flexure),
-        u32::from(f.bolt_shear),
-        u32::from(f.lip_shear),
-        u32::from(f.anchor_shear),
-        u32::from(f.connection_shear),
-        u32::from(f.concrete),
-    ]
+    let mut numbers = [0; FIELDS];
+    numbers[EDITION_AT] = u32::from(u8::from(edition));
+    numbers[GEOMETRY_AT..MOMENT_AT].copy_from_slice(&widened(geometry_shorts(&g)));
+    numbers[MOMENT_AT] = g.moment_of_inertia;
+    numbers[VALUES_AT..FACTORS_AT].copy_from_slice(&values_list(&v));
+    numbers[FACTORS_AT..].copy_from_slice(&widened(factors_list(&f)));
+    numbers
 }

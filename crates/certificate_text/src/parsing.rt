@@ -3,7 +3,7 @@ ghost use Rattle.certificate_text.specs.Parsed.{Parses};
 
 use crate::assembly::{factors_from, geometry_from, values_from};
 use crate::fault::TextFault;
-use crate::names::FIELDS;
+use crate::names::{EDITION_AT, FIELDS};
 use crate::reader::Reader;
 use crate::text::CertificateText;
 use std::alloc::Global;
@@ -20,7 +20,7 @@ pub fn parse(heap: Global, text: &[u8]) -> Result<CertificateText, TextFault>
         return Err(TextFault::Line(FIELDS + cracked.len() + uncracked.len() + 1));
     }
     Ok(CertificateText {
-        edition: numbers[0] as u8,
+        edition: numbers[EDITION_AT] as u8,
         geometry: geometry_from(&numbers),
         values: values_from(&numbers),
         factors: factors_from(&numbers),

@@ -20,7 +20,7 @@ fn write_fields(out: &mut String, numbers: &[u32; FIELDS]) -> Result<(), AllocEr
 {
     for (field, number) in fields().iter().zip(numbers) {
         let name = field.name;
-        write!(out, "{name} {number}\n")?;
+        writeln!(out, "{name} {number}")?;
     }
     Ok(())
 }
@@ -30,7 +30,7 @@ fn write_entry(out: &mut String, name: &str, entry: StrengthFactor) -> Result<()
     ensures { OnOk result (string_bytes out.new ≡ string_bytes out.old ++ entry_text name.now entry) }
 {
     let StrengthFactor { strength, factor } = entry;
-    write!(out, "{name} {strength} {factor}\n")
+    writeln!(out, "{name} {strength} {factor}")
 }
 
 // The lines of a list.

@@ -6,7 +6,7 @@ use certificate::fields::{CharacteristicValues, Fields, Geometry, PartialFactors
 
 #[derive(Drop)]
 pub struct CertificateText {
-    pub(crate) edition: u8,
+    pub(crate) edition: u8, // any byte: the writer asks it
     pub(crate) geometry: Geometry,
     pub(crate) values: CharacteristicValues,
     pub(crate) factors: PartialFactors,

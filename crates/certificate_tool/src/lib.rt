@@ -22,7 +22,7 @@ pub fn make(heap: Global, text: &[u8]) -> Result<Vec<u8>, ToolFault>
     ensures { Makes text.now result }
 {
     let parsed = parse(heap, text)?;
-    let mut buffer = [0; MOST_BYTES];
+    let mut buffer = [0; MOST_BYTES]; // write fills a lent buffer
     let length = write(&parsed.fields(), &mut buffer)?;
     Ok(Vec::from_slice(heap, &buffer[..length])?)
 }

@@ -12,7 +12,7 @@ fn main(rt: HostRuntime) -> anyhow::Result<()> {
     rt.stdin().read_to_end(&mut text)?;
     let made = match make(heap, &text) {
         Ok(made) => made,
-        Err(fault) => return tell(&rt, Err(fault)),
+        Err(fault) => return tell(&rt, Err(fault)), // told as a fault of `show` is
     };
     tell_file(&rt, fs::write(&rt, FILE, made.as_slice()))?;
     let kept = tell_file(&rt, fs::read(&rt, FILE))?;

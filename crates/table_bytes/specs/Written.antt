@@ -1,5 +1,6 @@
 -- What a word of a table writes.
 --   fault_of e        the fault of the table for one of the library that reads hex digits
+--   fault_text e      what is printed of a fault
 --   lifted r          the library's answer with that fault
 --   bytes_of w        no bytes for a dash; else two digits each, refused where one is left over, then where one is no digit,
 --                     of which upper-case letters are none
@@ -18,6 +19,11 @@ fault_of (InvalidHexCharacter c i) = Digit
 fault_of OddLength = Half
 fault_of InvalidStringLength = Half
 fault_of OutOfMemory = Memory
+
+abbrev pub fault_text : TableFault → List ℕ
+fault_text Half = codes "half a byte"
+fault_text Digit = codes "not a hex digit"
+fault_text Memory = codes "memory allocation failed"
 
 abbrev pub lifted : Result (List ℕ) FromHexError → Result (List ℕ) TableFault
 lifted (Ok bs) = Ok bs

@@ -1,6 +1,6 @@
 // Why a word of a table is refused.
-ghost use Rattle.std.specs.Prelude.{◌≡◌};
-ghost use Rattle.table_bytes.specs.Written.{fault_of};
+ghost use Rattle.std.specs.Prelude.{◌≡◌, Some};
+ghost use Rattle.table_bytes.specs.Written.{fault_of, fault_text};
 
 use hex::FromHexError;
 use std::error::Error;
@@ -14,6 +14,8 @@ pub enum TableFault {
 }
 
 impl fmt::Display for TableFault {
+    ghost output = { λ fault. Some (fault_text fault) };
+
     fn fmt<W: fmt::Write>(&self, f: &mut fmt::Formatter<W>) -> fmt::Result {
         match self {
             TableFault::Half => write!(f, "half a byte"),

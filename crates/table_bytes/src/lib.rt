@@ -1,5 +1,6 @@
-// Bytes as the tables of worked cases write them: two lower-case hex digits for each, and a dash where there are none. The
-// crate promises that a word of a table is read as the bytes that it writes, or refused by the first fault that it has.
+// Bytes as the tables of worked cases write them: two lower-case hex digits for each, and a dash where there are none.
+// The crate promises that a word of a table is read as the bytes that it writes, or refused by the first fault that it
+// has.
 #![tactic(auto)]
 
 ghost use Rattle.std.specs.Prelude.{◌≡◌, ◌⊎◌, IfOk, IfErr};
