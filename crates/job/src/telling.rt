@@ -68,8 +68,8 @@ pub(crate) fn outcomes_of(
 {
     let mut outcomes = Vec::new(heap);
     let mut left = answers;
-    for (i, line) in lines.iter().enumerate() {
-        outcomes.extend(outcome_of(i + SECOND_LINE, *line, left))?;
+    for (number, line) in (SECOND_LINE..).zip(lines) {
+        outcomes.extend(outcome_of(number, *line, left))?;
         left = past(left, count_of(*line));
     }
     Ok(outcomes)
