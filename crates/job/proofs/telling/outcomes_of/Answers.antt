@@ -26,5 +26,5 @@ pub returns : goal.returns
 returns c =
     -- the numbers don't run out first: a list is far shorter
     let none : length (iter_rest (zip_second c.loop-number.number-iterator)) ≡ 0 =
-    either c.in-None.ensures.steps (λ a. absurd (omega (arith, a.1.0, c.loop-number.invariant.1, c.well_formed.1.0.0))) (λ b. b.1.0) in
+    either c.in-None.ensures.steps (λ a. absurd (omega (arith, a.1.0, c.loop-number.invariant.1))) (λ b. b.1.0) in
     told_all _ _ _ _ _ none c.loop-number.invariant.0
