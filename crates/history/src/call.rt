@@ -15,6 +15,7 @@ pub enum Call {
 }
 
 // What a call is answered. `OutOfTurn` is for a call that would not build on the case as it stands.
+// a sum of five, no Result: a refusal is an answer like the others
 #[derive(Clone, Copy, Debug, PartialEq, Eq)]
 pub enum Answer {
     Done,

@@ -16,6 +16,7 @@ const NO_PLACE: Governing = Governing {
 // Printed where no combined check fails.
 const NO_CHECK: u8 = 0;
 
+// no Result: it has a printed form of its own
 #[derive(Clone, Copy, Debug, PartialEq, Eq)]
 pub enum Outcome {
     Rated(Verdict),

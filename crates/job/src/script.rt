@@ -10,6 +10,7 @@ use std::alloc::{AllocError, Global};
 pub(crate) const RATING: [Call; 3] = [Call::Close, Call::Rate, Call::Reopen];
 
 // Adds the calls of one line: none for a line that is refused.
+// not a slice that telling.rt counts too: a bolt's call would have to stand somewhere
 fn add_calls(calls: &mut Vec<Call>, said: Option<JobLine>) -> Result<(), AllocError>
     ensures { is_ok result ≡ true → calls.new.items ≡ calls.old.items ++ calls_of said }
 {

@@ -2,7 +2,7 @@
 ghost use Rattle.std.specs.Prelude.{◌≡◌, length, drop, IfOk};
 ghost use Rattle.std.specs.Option.{option_to_list};
 ghost use Rattle.job.specs.Scripts.{calls_of};
-ghost use Rattle.job.specs.Telling.{answer_at, told, outcome, outcomes};
+ghost use Rattle.job.specs.Telling.{told, outcome, outcomes};
 
 use crate::fault::JobRefusal;
 use crate::outcome::Outcome;
@@ -16,12 +16,6 @@ const SECOND_LINE: usize = 2;
 
 // The answer of a rating is the second of its three.
 const RATED: usize = 1;
-
-fn answer_at(answers: &[Answer], k: usize) -> Answer
-    ensures { result ≡ answer_at answers.now k }
-{
-    answers.get(k).copied().unwrap_or(Answer::Done)
-}
 
 // What an answer tells of a line.
 fn told(line: usize, answer: Answer) -> Option<Outcome>
@@ -39,13 +33,14 @@ fn outcome_of(line: usize, said: Option<JobLine>, answers: &[Answer]) -> Option<
     ensures { option_to_list result ≡ outcome line said answers.now }
 {
     match said {
-        Some(JobLine::Place(_)) | Some(JobLine::Lift(_)) => told(line, answer_at(answers, 0)),
-        Some(JobLine::Rate) => told(line, answer_at(answers, RATED)),
+        Some(JobLine::Place(_)) | Some(JobLine::Lift(_)) => told(line, *answers.first()?),
+        Some(JobLine::Rate) => told(line, *answers.get(RATED)?),
         Some(JobLine::Site(_)) | None => Some(Outcome::Refused(JobRefusal::Line { line })),
     }
 }
 
 // How many calls a line makes.
+// as many as script.rt's add_calls adds: the clauses of both name the one definition calls_of
 fn count_of(said: Option<JobLine>) -> usize
     ensures { result ≡ length (calls_of said) }
 {
@@ -73,8 +68,8 @@ pub(crate) fn outcomes_of(
 {
     let mut outcomes = Vec::new(heap);
     let mut left = answers;
-    for (i, line) in lines.iter().enumerate() {
-        outcomes.extend(outcome_of(i + SECOND_LINE, *line, left))?;
+    for (number, line) in (SECOND_LINE..).zip(lines) {
+        outcomes.extend(outcome_of(number, *line, left))?;
         left = past(left, count_of(*line));
     }
     Ok(outcomes)

@@ -31,8 +31,5 @@ pub(crate) fn numbers_in<const N: usize>(words: Words<'_>) -> Option<[u32; N]>
         *number = number_in(cut.word)?;
         rest = cut.rest;
     }
-    match rest {
-        Some(_) => None,
-        None => Some(numbers),
-    }
+    rest.is_none().then_some(numbers)
 }

@@ -20,6 +20,7 @@ use std::io::Read;
 const FILE: &str = "channel.cert";
 
 fn run(rt: &HostRuntime) -> anyhow::Result<()> {
+    // not tell_file: this program does not rest on the certificate tools
     let certificate = match fs::read(rt, FILE) {
         Ok(bytes) => bytes,
         // the file's name and fault stand on a line of their own, before the one that `main` leaves

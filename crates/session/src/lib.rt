@@ -17,6 +17,7 @@ use std::alloc::Global;
 
 // Opens a case and answers the calls one after the other on a sheet of thirteen lines. Refused where a number of the
 // opening is out of range; else only memory can be wanting, and that before the first call.
+// thirteen types by name, as `Sheet` has them
 pub fn answer_session<
     M1: FailureMode,
     M2: FailureMode,

@@ -1,6 +1,7 @@
 // A sheet of thirteen lines.
 
 // The failure modes of a sheet, by line: any thirteen.
+// thirteen types by name: each line is a type of its own, so no array holds them
 #[derive(Drop)]
 pub struct Sheet<M1, M2, M3, M4, M5, M6, M7, M8, M9, M10, M11, M12, M13> {
     pub line1: M1,

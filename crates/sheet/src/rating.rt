@@ -13,6 +13,7 @@ use verdict::answer::{Shown, Verdict};
 use verdict::sheet::RatingSheet;
 use verdict::verdicts::verdict_of;
 
+// thirteen types by name, as `Sheet` has them
 impl<
     M1: FailureMode,
     M2: FailureMode,

@@ -12,7 +12,7 @@ pub fn number_in(bytes: &[u8]) -> Option<u32>
     if bytes.is_empty() || bytes.len() > MOST_DIGITS {
         return None;
     }
-    // a loop: in a fold each sum would need a check of its own
+    // no parse: it takes a sign; no fold: each step would ask for the bound again
     let mut number: u32 = 0;
     for byte in bytes {
         number = 10 * number + char::from(*byte).to_digit(10)?;

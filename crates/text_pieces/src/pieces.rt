@@ -15,6 +15,7 @@ pub fn place_of(bytes: &[u8], wanted: u8) -> usize
 }
 
 // Where the first line of a text ends.
+// not place_of at its callers: a function each, so that a line and a word have their own clause
 fn line_end(text: &[u8]) -> usize
     ensures { FirstOf 10 text.now result }
 {
@@ -52,6 +53,7 @@ pub fn cut_line<'a>(text: &'a [u8]) -> Option<LineCut<'a>>
 }
 
 // The lines of a text, one after the other.
+// no split: a text that ends in a line feed has no empty last line
 #[derive(Clone, Copy)]
 pub struct Lines<'a> {
     rest: &'a [u8],

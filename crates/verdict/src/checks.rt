@@ -18,7 +18,9 @@ const MOST_SQUARES: u128 = 100_000_000;
 // The most of their sum in the concrete.
 const MOST_CONCRETE: u64 = 12_000;
 
-// Whether the squares of lines 4 and 8 at a bolt are together small enough.
+// The checks take rows as a bare array, as table.rt says.
+
+// Whether the squares of lines 4 and 8 at a bolt are together at most 100,000,000.
 fn bolt_steel_holds(rows: &[Row; LINES], place: usize) -> bool
     ensures { result ≡ nat_le (bolt_steel (row_lines rows.now) place) 100000000 }
 {
@@ -27,7 +29,7 @@ fn bolt_steel_holds(rows: &[Row; LINES], place: usize) -> bool
     tension * tension + shear * shear <= MOST_SQUARES
 }
 
-// Whether the greater of lines 3 and 5 at a bolt, and line 9, are.
+// Whether the greater of lines 3 and 5 at a bolt and line 9 are together at most 10,000.
 fn channel_holds(rows: &[Row; LINES], place: usize) -> bool
     ensures { result ≡ nat_le (channel (row_lines rows.now) place) 10000 }
 {
@@ -37,7 +39,7 @@ fn channel_holds(rows: &[Row; LINES], place: usize) -> bool
     u64::from(lip.max(flexure)) + u64::from(shear) <= MOST_SUM
 }
 
-// Whether the greater of lines 1 and 2 at an anchor, and the greater of lines 10 and 11, are.
+// Whether the greater of lines 1 and 2 at an anchor and the greater of lines 10 and 11 are together at most 10,000.
 fn anchor_holds(rows: &[Row; LINES], place: usize) -> bool
     ensures { result ≡ nat_le (anchor (row_lines rows.now) place) 10000 }
 {
@@ -48,7 +50,7 @@ fn anchor_holds(rows: &[Row; LINES], place: usize) -> bool
     u64::from(anchor.max(connection)) + u64::from(anchor_shear.max(connection_shear)) <= MOST_SUM
 }
 
-// Whether the largest of lines 6 and 7, and the largest of lines 12 and 13, are.
+// Whether the largest of lines 6 and 7 and the largest of lines 12 and 13 are together at most 12,000.
 fn concrete_holds(rows: &[Row; LINES]) -> bool
     ensures { result ≡ check_4 (row_lines rows.now) }
 {

@@ -28,6 +28,7 @@ pub fn figures_at<M: FailureMode>(mode: &M, case: &ClosedCase, place: usize) -> 
 pub fn row<M: FailureMode>(mode: &M, case: &ClosedCase) -> Row
     ensures { RowOf (M.FailureMode.meaning mode.now (closed_case case.now)) result }
 {
+    // no collect: an ArrayVec's asks for an allocator
     let mut figures = ArrayVec::new();
     while let Some(shown) = figures_at(mode, case, figures.len()) {
         figures.push(shown);

@@ -21,6 +21,7 @@ fn larger_of(first: Option<Governing>, second: Governing) -> Governing
 fn with_line(before: Option<Governing>, row: &Row, line: usize) -> Option<Governing>
     ensures { result ≡ with_places before line (row_line row.now) (row_line row.now).places.count }
 {
+    // no max_by_key: of equals the first stays
     let mut best = before;
     for (i, shown) in row.figures.iter().enumerate() {
         let next = Governing {
@@ -33,10 +34,11 @@ fn with_line(before: Option<Governing>, row: &Row, line: usize) -> Option<Govern
     best
 }
 
-// The governing place of thirteen lines.
+// The governing place of thirteen lines; a bare array, as table.rt says.
 pub(crate) fn governing_of(rows: &[Row; LINES]) -> Option<Governing>
     ensures { result ≡ governing (row_lines rows.now) }
 {
+    // no max_by_key: of equals the first stays
     let mut best = None;
     for (k, row) in rows.iter().enumerate() {
         best = with_line(best, row, k + 1);

@@ -20,7 +20,8 @@ impl Shown {
 }
 
 impl Row {
-    // The utilisation at a place of the kind; 0 where the line has no such place.
+    // The utilisation at a place of the kind.
+    // 0, no Option: a line without the place uses nothing
     fn used(&self, kind: PlaceKind, place: usize) -> u32
         ensures { result ≡ used kind (row_line self.now) place }
     {
@@ -30,7 +31,8 @@ impl Row {
         self.figures.get(place).map_or(0, |shown| shown.utilisation)
     }
 
-    // The largest utilisation; 0 where the line has no place.
+    // The largest utilisation.
+    // 0, no Option: a line without a place uses nothing
     fn largest(&self) -> u32
         ensures { result ≡ largest (row_line self.now) }
     {

@@ -1,8 +1,8 @@
-use Rattle.std.proofs.Common.{◌≡◌, ℕ, ◌<◌, ◌≤◌, List, length, Option, sym, ap, ◌∙◌, arith, length-set, Bor}
+use Rattle.std.proofs.Common.{◌≡◌, ℕ, ◌<◌, List, length, Option, sym, ap, ◌∙◌, arith, length-set, Bor}
 use Rattle.std.specs.Option.{option_map}
 use Rattle.text_pieces.specs.Pieces.{words_after}
 use Rattle.job_text.specs.Counted.{exactly}
-use Rattle.job_text.proofs.NumberRuns.{read_more, read_short, read_long, read_wrong, read_all}
+use Rattle.job_text.proofs.NumberRuns.{read_more, read_short, read_wrong, read_end}
 use Rattle.job_text.proofs.numbers.numbers_in.Goals as goal
 
 -- the words in an optional byte string
@@ -29,14 +29,8 @@ loop-number-preserved g c =
     let t : c.loop-number.number-index < g.row.N = c.loop-number-test.true in
     (read_more _ _ _ _ _ _ _ c.loop-number.invariant.0 e f (omega arith), simp length-set n)
 
-pub returns-in-Some : goal.returns-in-Some
-returns-in-Some g c =
-    read_long g.row.N _ _ _ _ c.in-Some.field-0.now c.loop-number.invariant.0 (ap left c.in-Some.is) c.loop-number-test.false
-    ∙ ap (exactly g.row.N) c.words.view_is
-
-pub returns-in-None : goal.returns-in-None
-returns-in-None g c =
-    let t : g.row.N ≤ c.loop-number.number-index = c.loop-number-test.false in
-    let m : c.loop-number.number-index ≤ g.row.N = c.loop-number.auto.number-index-end in
-    read_all g.row.N _ _ _ _ c.loop-number.invariant.0 (ap left c.in-None.is) (omega arith) c.loop-number.invariant.1
+pub returns : goal.returns
+returns g c =
+    c.then_some.ensures
+    ∙ read_end g.row.N _ _ _ _ _ c.loop-number.invariant.0 c.is_none.ensures c.loop-number-test.false c.loop-number.auto.number-index-end c.loop-number.invariant.1
     ∙ ap (exactly g.row.N) c.words.view_is
