@@ -27,6 +27,7 @@ impl From<Concrete> for Section {
     }
 }
 
+// The list of a state. Both lists and the state are parameters apart: so a caller lends them to `lookup`.
 fn chosen<'a>(cracked: &'a [u8], uncracked: &'a [u8], concrete: Concrete) -> &'a [u8]
     ensures { result.now ≡ chosen_list cracked.now uncracked.now concrete }
 {

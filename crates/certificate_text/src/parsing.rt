@@ -20,6 +20,7 @@ pub fn parse(heap: Global, text: &[u8]) -> Result<CertificateText, TextFault>
         return Err(TextFault::Line(FIELDS + cracked.len() + uncracked.len() + 1));
     }
     Ok(CertificateText {
+        // at most 255: its line was asked
         edition: numbers[EDITION_AT] as u8,
         geometry: geometry_from(&numbers),
         values: values_from(&numbers),

@@ -9,7 +9,8 @@ use crate::resistance::Resistance;
 use bolts::bolt::Direction;
 use loadcase::closed::ClosedCase;
 
-// Effects and resistances are in mN, for bending in thousandths of a newton-metre.
+// Effects and resistances are in mN, for bending in thousandths of a newton-metre. Case and place are two parameters
+// and no struct: the form that every mode implements.
 pub trait FailureMode {
     ghost meaning: { Self → Case → Meaning };
 
