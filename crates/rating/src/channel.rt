@@ -38,6 +38,7 @@ pub type EdgeLine = RootReduction<CornerReduction<ByEdition<FirstEdge, SecondEdg
 
 // The sheet of a channel: anchor, connection, lip, bolt, flexure, pull-out and cone in tension; bolt, lip, anchor,
 // connection, pry-out and edge in shear.
+// Thirteen types by name, as `Sheet` has them.
 pub type ChannelSheet = Sheet<
     AnchorSteel,
     AnchorSteel,

@@ -4,6 +4,7 @@
 #[derive(Clone, Copy, Debug, PartialEq, Eq)]
 pub struct SiteNumbers {
     pub strength: u32,
+    // cracked and dense: 0 or 1, as a line writes them; any number may be handed in, and `check` asks it
     pub cracked: u32,
     pub edge_distance: u32,
     pub left_corner: u32,
