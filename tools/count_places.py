@@ -44,33 +44,29 @@ def enums():
     return found
 
 
-def requires():
-    """A fact that stands in the requires of three functions or more, with numbers and names as they are."""
+def repeated(pattern, facts):
+    """What stands in the clauses of three functions or more: `facts` gives those of a clause that matches."""
     where = defaultdict(list)
     for path, lines in sources():
         for number, line in enumerate(lines, 1):
-            match = re.match(r"\s*requires (?:\w+ )?\{ (.*) \}$", line)
-            if not match:
-                continue
-            for fact in re.split(r" × ", match.group(1)):
-                fact = fact.strip().strip("()").strip()
-                where[re.sub(r"\b\w+\.(?=\w)", "", fact)].append((path, number, fact))
-    found = []
-    for fact, places in sorted(where.items()):
-        if len(places) >= 3:
-            found.append((places[0][0], places[0][1], f"{len(places)} x  {fact}"))
-    return found
+            match = re.match(pattern, line)
+            for fact in facts(match.group(1)) if match else []:
+                where[fact].append((path, number))
+    return [(p[0][0], p[0][1], f"{len(p)} x  {fact}") for fact, p in sorted(where.items()) if len(p) >= 3]
+
+
+def requires():
+    """A fact that stands in the requires of three functions or more, with numbers and names as they are."""
+    def facts(clause):
+        parts = [fact.strip().strip("()").strip() for fact in re.split(r" × ", clause)]
+        return [re.sub(r"\b\w+\.(?=\w)", "", fact) for fact in parts]
+
+    return repeated(r"\s*requires (?:\w+ )?\{ (.*) \}$", facts)
 
 
 def premises():
     """A premise of an ensures that stands in three functions or more."""
-    where = defaultdict(list)
-    for path, lines in sources():
-        for number, line in enumerate(lines, 1):
-            match = re.match(r"\s*ensures \w+ \{ (.*?) → ", line)
-            if match and "(" not in match.group(1)[:1]:
-                where[match.group(1)].append((path, number))
-    return [(p[0][0], p[0][1], f"{len(p)} x  {fact}") for fact, p in sorted(where.items()) if len(p) >= 3]
+    return repeated(r"\s*ensures \w+ \{ (.*?) → ", lambda premise: [] if premise.startswith("(") else [premise])
 
 
 def shapes():
