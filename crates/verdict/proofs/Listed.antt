@@ -2,7 +2,7 @@
 use Rattle.std.proofs.Common.{◌≡◌, ℕ, zero, suc, ◌≤◌, max, leb, List, length, get_or, take, refl, sym, ap, ◌∙◌, arith}
 use Rattle.std.specs.List.{fold, list_all}
 use Rattle.std.proofs.Math.Seq.{take-suc}
-use Rattle.std.proofs.lemmas.List.{take_all}
+use Rattle.std.proofs.lemmas.List.{get_or-take, length-take-le}
 use Rattle.std.proofs.lemmas.List.Sums.{fold-append}
 use Rattle.failure.specs.Meanings.{Meaning}
 use Rattle.verdict.specs.Checks.{all_below, line_within, none_over}
@@ -26,17 +26,18 @@ folded m xs is (suc n) h =
     ∙ ap (λ (v : ℕ). max v (get_or xs n no_figures).utilisation) (folded m xs is n (omega arith))
     ∙ ap (max (largest_of m n)) (is n)
 
-pub largest_listed : (r : Row) → fold higher 0 r.figures.items ≡ largest (row_line r)
-unfolding largest
-largest_listed r =
-    let xs = r.figures.items in
-    ap (fold higher 0) (sym (take_all (length xs) xs (omega arith))) ∙ folded (row_line r) xs r.consistent (length xs) (omega arith)
+module _ (r : Row) (few : r.count ≤ length r.figures) where
+  pub largest_listed : fold higher 0 (take r.count r.figures) ≡ largest (row_line r)
+  unfolding largest
+  largest_listed = folded (row_line r) r.figures r.consistent r.count few
 
-pub within_listed : (r : Row) → list_all (λ (s : Shown). leb s.utilisation 10000) r.figures.items ≡ line_within (row_line r)
-within_listed r =
-    let xs = r.figures.items in
-    all_listed (λ (s : Shown). leb s.utilisation 10000) xs no_figures
-    ∙ below_same (length xs) (λ i. leb (get_or xs i no_figures).utilisation 10000) (λ i. leb (utilisation (row_line r) i) 10000) (λ i h. ap (λ (v : ℕ). leb v 10000) (r.consistent i))
+  pub within_listed : list_all (λ (s : Shown). leb s.utilisation 10000) (take r.count r.figures) ≡ line_within (row_line r)
+  within_listed =
+      let xs = take r.count r.figures in
+      all_listed (λ (s : Shown). leb s.utilisation 10000) xs no_figures
+      ∙ ap (λ (n : ℕ). all_below n (λ i. leb (get_or xs i no_figures).utilisation 10000)) (length-take-le r.count r.figures few)
+      ∙ below_same r.count (λ i. leb (get_or xs i no_figures).utilisation 10000) (λ i. leb (utilisation (row_line r) i) 10000) (λ i h.
+      ap (λ (s : Shown). leb s.utilisation 10000) (get_or-take r.count r.figures i no_figures h) ∙ ap (λ (v : ℕ). leb v 10000) (r.consistent i))
 
 pub none_listed : (rs : List Row) → length rs ≡ line_count → list_all (λ r. line_within (row_line r)) rs ≡ none_over (row_lines rs)
 unfolding none_over

@@ -4,7 +4,7 @@
 --   row_line r            the line as far as its row tells it
 --   row_lines rs          the lines of thirteen rows
 use Rattle.std.specs.Prelude.{◌≡◌, ℕ, zero, suc, List, [], ◌∷◌, get_or, slice_index_or, refl}
-use Rattle.arrayvec.specs.ArrayVec.{array_vec_len}
+use Rattle.std.proofs.Common.{lit≤}
 use Rattle.failure.specs.Meanings.{Meaning}
 use Rattle.failure.specs.declared.places.PlaceKind.TheVariants.{Nothing}
 use Rattle.bolts.specs.declared.bolt.Direction.TheVariants.{Tension}
@@ -13,21 +13,21 @@ use Rattle.verdict.specs.Figures.{no_figures, figures_or_none}
 use Rattle.verdict.specs.declared.row.Row.{Row}
 
 abbrev pub no_row : Row
-no_row = record { kind = Nothing; figures = record { items = [] }; consistent = λ _. refl }
+no_row = record { kind = Nothing; count = 0; figures = []; few = lit≤ tt; consistent = λ _. refl }
 
 pub record RowOf (m : Meaning) (r : Row) : Type 0 where
   pub kind : r.kind ≡ m.places.kind
-  pub count : array_vec_len r.figures ≡ m.places.count
-  pub figures : (i : ℕ) → slice_index_or r.figures.items i no_figures ≡ figures_or_none m i
+  pub count : r.count ≡ m.places.count
+  pub figures : (i : ℕ) → slice_index_or r.figures i no_figures ≡ figures_or_none m i
 
 -- a row tells nothing of readings and allowance
 abbrev pub row_line : Row → Meaning
 row_line r = record {
-  places = record { kind = r.kind; count = array_vec_len r.figures };
+  places = record { kind = r.kind; count = r.count };
   allowance = 0;
   direction = Tension;
-  effect = λ i. (get_or r.figures.items i no_figures).effect;
-  resistance = λ i. (get_or r.figures.items i no_figures).resistance;
+  effect = λ i. (get_or r.figures i no_figures).effect;
+  resistance = λ i. (get_or r.figures i no_figures).resistance;
   low_effect = λ _ _. Unit {0};
   high_effect = λ _ _. Unit {0};
   low_resistance = λ _ _. Unit {0};

@@ -19,11 +19,11 @@ fn larger_of(first: Option<Governing>, second: Governing) -> Governing
 
 // The governing place with one line more, whose number is `line`.
 fn with_line(before: Option<Governing>, row: &Row, line: usize) -> Option<Governing>
-    ensures { result ≡ with_places before line (row_line row.now) (row_line row.now).places.count }
+    ensures { result ≡ with_places before line (row_line row.now) row.now.count }
 {
     // no max_by_key: of equals the first stays
     let mut best = before;
-    for (i, shown) in row.figures.iter().enumerate() {
+    for (i, shown) in row.shown().iter().enumerate() {
         let next = Governing {
             utilisation: shown.utilisation,
             line,

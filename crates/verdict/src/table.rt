@@ -28,7 +28,7 @@ impl Row {
         if self.kind != kind {
             return 0;
         }
-        self.figures.get(place).map_or(0, |shown| shown.utilisation)
+        self.shown().get(place).map_or(0, |shown| shown.utilisation)
     }
 
     // The largest utilisation.
@@ -36,7 +36,7 @@ impl Row {
     fn largest(&self) -> u32
         ensures { result ≡ largest (row_line self.now) }
     {
-        let utilisations = self.figures.iter().map(|shown| shown.utilisation);
+        let utilisations = self.shown().iter().map(|shown| shown.utilisation);
         utilisations.max().unwrap_or(0)
     }
 
@@ -44,7 +44,7 @@ impl Row {
     fn is_within(&self) -> bool
         ensures { result ≡ line_within (row_line self.now) }
     {
-        self.figures.iter().all(Shown::is_within)
+        self.shown().iter().all(Shown::is_within)
     }
 }
 
