@@ -17,9 +17,10 @@ pub enum Line {
 }
 
 impl Line {
-    // Reads a line, without its line feed; none where it is not understood.
+    // Reads a line, with its line feed or, at the end of the input, without; none where it is not understood.
     pub(crate) fn parse(bytes: &[u8]) -> Option<Line> {
-        let mut words = from_utf8(bytes).ok()?.split(' ');
+        let line = from_utf8(bytes).ok()?;
+        let mut words = line.strip_suffix('\n').unwrap_or(line).split(' ');
         let said = match words.next()? {
             "open" => Line::Open(Opening {
                 anchors: number(words.next())?,

@@ -100,12 +100,20 @@ fn complain(rt: &HostRuntime, trouble: Trouble, number: u64) -> anyhow::Result<(
 }
 
 fn run(rt: &HostRuntime) -> anyhow::Result<()> {
-    let input = BufReader::new(rt.alloc(), rt.stdin())?;
+    let mut input = BufReader::new(rt.alloc(), rt.stdin())?;
+    let mut bytes = Vec::new(rt.alloc());
     let mut held = None;
-    for (number, bytes) in (1u64..).zip(input.split(rt.alloc(), b'\n')) {
-        let bytes = bytes?;
-        let line = Line::parse(bytes.as_slice()).ok_or(Trouble::NotUnderstood);
-        if let Err(trouble) = line.and_then(|line| follow(rt, &mut held, line)) {
+    // one buffer for all lines: `split` would make a list for each. An input need not end, so the lines are counted
+    for number in 1..u64::MAX {
+        bytes.clear();
+        if input.read_until(b'\n', &mut bytes)? == 0 {
+            break;
+        }
+        let followed = match Line::parse(bytes.as_slice()) {
+            Some(line) => follow(rt, &mut held, line),
+            None => Err(Trouble::NotUnderstood),
+        };
+        if let Err(trouble) = followed {
             complain(rt, trouble, number)?;
         }
     }

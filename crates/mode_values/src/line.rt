@@ -18,12 +18,12 @@ pub enum Line {
 }
 
 impl Line {
-    // Reads a line, without its line feed; none where it says nothing known.
+    // Reads a line, with its line feed or, at the end of the input, without; none where it says nothing known.
     pub(crate) fn parse(heap: Global, bytes: &[u8]) -> anyhow::Result<Option<Line>> {
         let Ok(line) = from_utf8(bytes) else {
             return Ok(None);
         };
-        let mut words = line.split(' ');
+        let mut words = line.strip_suffix('\n').unwrap_or(line).split(' ');
         let Some(word) = words.next() else {
             return Ok(None);
         };

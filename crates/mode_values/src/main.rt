@@ -76,11 +76,16 @@ fn follow(rt: &HostRuntime, held: &mut Option<OpenCase>, line: Line) -> anyhow::
 }
 
 fn run(rt: &HostRuntime) -> anyhow::Result<()> {
-    let input = BufReader::new(rt.alloc(), rt.stdin())?;
+    let mut input = BufReader::new(rt.alloc(), rt.stdin())?;
+    let mut bytes = Vec::new(rt.alloc());
     let mut held = None;
-    for line in input.split(rt.alloc(), b'\n') {
-        let line = line?;
-        match Line::parse(rt.alloc(), line.as_slice())? {
+    // one buffer for all lines: `split` would make a list for each. An input need not end, so the lines are counted
+    for _ in 1..u64::MAX {
+        bytes.clear();
+        if input.read_until(b'\n', &mut bytes)? == 0 {
+            break;
+        }
+        match Line::parse(rt.alloc(), bytes.as_slice())? {
             Some(line) => follow(rt, &mut held, line)?,
             None => println!(rt; "not understood")?,
         }
