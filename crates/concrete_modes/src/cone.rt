@@ -93,7 +93,10 @@ impl FailureMode for Cone {
     }
 
     fn resistance(&self, case: &ClosedCase, place: usize) -> Option<u64> {
+        if place >= self.places(case).count {
+            return None; // before any root is taken
+        }
         let design = self.basic_value().design(self.factor);
-        self.places(case).at_each(design.value, place)
+        Some(design.value)
     }
 }

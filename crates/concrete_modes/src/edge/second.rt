@@ -107,8 +107,11 @@ impl FailureMode for SecondEdge {
     }
 
     fn resistance(&self, case: &ClosedCase, place: usize) -> Option<u64> {
+        if place >= self.places(case).count {
+            return None; // before any root is taken
+        }
         let hundredths = self.value() * u64::from(self.basis.p);
         let design = Characteristic { hundredths }.design(self.factor);
-        self.places(case).at_each(design.value, place)
+        Some(design.value)
     }
 }
