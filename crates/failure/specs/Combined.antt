@@ -1,8 +1,9 @@
 -- The meanings of the types of reductions, where `means` is that of the mode below.
 --   straight_of means s c, root_of means s c, corner_of means s c   the mode below under the reduction
 --   maybe_of means s c                                              the same as straight_of where the rule is there, else the
---                                                                   mode below as it is
-use Rattle.std.specs.Prelude.{Option}
+--                                                                   mode below as it is (`maybe_there`, `maybe_alone`)
+--   straight_is                                                     the straight reduction is its rule's scaling of the mode below
+use Rattle.std.specs.Prelude.{◌≡◌, Some, None, Option, refl}
 use Rattle.forces.specs.Cases.{Case}
 use Rattle.failure.specs.Meanings.{Meaning}
 use Rattle.failure.specs.Reductions.{straight_meaning, root_meaning}
@@ -29,3 +30,12 @@ straight_scaling r = ByRatio (λ _ _ _. ratio_of r.distances)
 
 abbrev pub maybe_of : {M : Type 0} → (M → Case → Meaning) → Reduced M (Option Straight) → Case → Meaning
 maybe_of means s c = under (maybe_scaling straight_scaling s.rule) c (means s.below c)
+
+pub straight_is : {M : Type 0} (means : M → Case → Meaning) (s : Reduced M Straight) (c : Case) → under (straight_scaling s.rule) c (means s.below c) ≡ straight_of means s c
+straight_is means s c = refl
+
+pub maybe_there : {M : Type 0} (means : M → Case → Meaning) (s : Reduced M Straight) (c : Case) → maybe_of means (record { below = s.below; rule = Some s.rule }) c ≡ straight_of means s c
+maybe_there means s c = refl
+
+pub maybe_alone : {M : Type 0} (means : M → Case → Meaning) (m : M) (c : Case) → maybe_of means (record { below = m; rule = None }) c ≡ means m c
+maybe_alone means m c = refl

@@ -1,5 +1,5 @@
 // A failure mode with or without a straight reduction, as one type; and a rule that may be there, as a rule.
-ghost use Rattle.std.specs.Prelude.{◌≡◌, Some, None};
+ghost use Rattle.std.specs.Prelude.{◌≡◌, Some, None, MatchResult};
 ghost use Rattle.failure.specs.Scalings.{maybe_scaling};
 
 use crate::places::Place;
@@ -17,6 +17,17 @@ impl<M> MaybeReduced<M> {
         ensures { (result.below ≡ below) × (result.rule ≡ rule) }
     {
         Reduced { below, rule }
+    }
+
+    // The reduction, or the mode alone where there is no rule.
+    pub fn into_reduction(self) -> Result<StraightReduction<M>, M>
+        ensures { MatchResult result (λ s. (s.below ≡ self.below) × (self.rule ≡ Some s.rule)) (λ m. (m ≡ self.below) × (self.rule ≡ None)) }
+    {
+        let below = self.below;
+        match self.rule {
+            Some(rule) => Ok(StraightReduction { below, rule }),
+            None => Err(below),
+        }
     }
 }
 

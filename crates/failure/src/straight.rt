@@ -1,9 +1,8 @@
 // The straight reduction: the resistance times A over B, where A is less.
 ghost use Rattle.std.specs.Prelude.{◌≡◌, true, false, MatchResult};
 ghost use Rattle.bolts.specs.declared.refusal.Refusal.TheVariants.{Reduction};
-ghost use Rattle.failure.specs.Distances.{ratio_of};
+ghost use Rattle.failure.specs.Combined.{straight_scaling};
 ghost use Rattle.failure.specs.Reductions.{in_range};
-ghost use Rattle.failure.specs.Scalings.{ByRatio};
 
 use crate::places::Place;
 use crate::reduced::Reduced;
@@ -42,7 +41,7 @@ impl<M: Drop> StraightReduction<M> {
 }
 
 impl Rule for Straight {
-    ghost scaling = { λ r. ByRatio (λ _ _ _. ratio_of r.distances) };
+    ghost scaling = { straight_scaling };
 
     ghost ranged = { λ r. tt };
 
