@@ -6,7 +6,7 @@
 ghost use Rattle.std.specs.Prelude.{◌≡◌, ◌⊎◌, IfOk, IfErr};
 ghost use Rattle.std.specs.Char.{is_ascii_uppercase};
 ghost use Rattle.std.specs.List.{list_any};
-ghost use Rattle.table_bytes.specs.Written.{bytes_of};
+ghost use Rattle.table_bytes.specs.Written.{bytes_of, is_other};
 ghost use Rattle.table_bytes.specs.declared.fault.TableFault.TheVariants.{Memory};
 
 use crate::fault::TableFault;
@@ -18,6 +18,7 @@ pub mod fault;
 const NO_BYTES: &str = "-";
 
 // The bytes that a word writes.
+#[tactic(auto, using(crate::proofs::Refused::refused))]
 pub fn table_bytes(heap: Global, word: &str) -> Result<Vec<u8>, TableFault>
     ensures ok { IfOk result (λ v. bytes_of word.now ≡ Ok v.items) }
     ensures err { IfErr result (λ e. (e ≡ Memory) ⊎ (bytes_of word.now ≡ Err e)) }
@@ -31,7 +32,12 @@ pub fn table_bytes(heap: Global, word: &str) -> Result<Vec<u8>, TableFault>
     if has_upper(word.as_bytes()) {
         return Err(TableFault::Digit);
     }
-    Ok(hex::decode(heap, word)?)
+    match hex::decode(heap, word) {
+        Ok(bytes) => Ok(bytes),
+        // room is asked before the digits; where it is wanting, a letter that is none is the word's own fault
+        Err(_) if has_other(word.as_bytes()) => Err(TableFault::Digit),
+        Err(e) => Err(e.into()),
+    }
 }
 
 // Whether a letter is in upper case.
@@ -39,4 +45,12 @@ fn has_upper(word: &[u8]) -> bool
     ensures { result ≡ list_any is_ascii_uppercase word.now }
 {
     word.iter().any(u8::is_ascii_uppercase)
+}
+
+// Whether a letter is no digit; an upper-case one is none.
+fn has_other(word: &[u8]) -> bool
+    ensures { result ≡ list_any is_other word.now }
+{
+    word.iter()
+        .any(|letter| !matches!(*letter, b'0'..=b'9' | b'a'..=b'f'))
 }
