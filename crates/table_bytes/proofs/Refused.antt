@@ -1,5 +1,5 @@
 -- A word with a letter that is no digit is refused.
-use Rattle.std.proofs.Common.{◌≡◌, ℕ, ◌+◌, ◌*◌, ◌%◌, ◌==◌, Bool, cond, true, false, ◌||◌, ◌⊎◌, List, [], ◌∷◌, length, Some, None, Option, Result, Ok, Err, is_none, refl, ap, ◌∙◌, sym, inl, inr, arith, rules, tests}
+use Rattle.std.proofs.Common.{◌≡◌, ℕ, ◌+◌, ◌*◌, ◌%◌, ◌==◌, Bool, cond, true, false, ◌||◌, ◌⊎◌, List, [], ◌∷◌, length, Some, None, Option, Result, Ok, Err, IsOk, is_none, refl, ap, ◌∙◌, sym, inl, inr, arith, rules, tests}
 use Rattle.std.proofs.lemmas.Bool.{or_parts, or_cases}
 use Rattle.std.specs.List.{list_any}
 use Rattle.std.specs.Char.{is_ascii_uppercase}
@@ -41,3 +41,25 @@ refused w even e = rw even (step (list_any is_ascii_uppercase w) refl)
     step : (t : Bool) → list_any is_ascii_uppercase w ≡ t → cond t (Err Digit) (lifted (decode_pairs 0 w)) ≡ Err Digit
     step true u = refl
     step false u = pairs_refused w 0 e u even
+
+-- two digits, and what follows them
+pair_read : (c d i : ℕ) (a b : Option ℕ) (r : Result (List ℕ) FromHexError) → is_none a ≡ false → is_none b ≡ false → IsOk (lifted r) → IsOk (lifted ((digit_or_error c i a >>= (λ h. digit_or_error d (i + 1) b >>= (λ l. Ok (h * 16 + l)))) >>= (λ byte. r >>= (λ bytes. Ok (byte ∷ bytes)))))
+pair_read c d i None b r x y z = cc
+pair_read c d i (Some v) None r x y z = cc
+pair_read c d i (Some v) (Some w) (Ok bs) x y z = refl
+pair_read c d i (Some v) (Some w) (Err f) x y z = z
+
+pairs_read : (w : List ℕ) (i : ℕ) → list_any is_other w ≡ false → length w % 2 ≡ 0 → IsOk (lifted (decode_pairs i w))
+unfolding decode_pairs
+pairs_read [] i e even = refl
+pairs_read (c ∷ []) i e even = cc
+pairs_read (c ∷ d ∷ w) i e even =
+    let p = or_parts (is_other c) (is_other d || list_any is_other w) e in
+    let q = or_parts (is_other d) (list_any is_other w) p.1 in
+    let x = or_parts (is_none (hex_digit_value c)) (is_ascii_uppercase c) p.0 in
+    let y = or_parts (is_none (hex_digit_value d)) (is_ascii_uppercase d) q.0 in
+    pair_read c d i (hex_digit_value c) (hex_digit_value d) (decode_pairs (i + 2) w) x.0 y.0 (pairs_read w (i + 2) q.1 (omega arith))
+
+-- a word of whole pairs of digits is read
+pub read : (w : List ℕ) → length w % 2 ≡ 0 → list_any is_other w ≡ false → list_any is_ascii_uppercase w ≡ false → IsOk (cond (length w % 2 == 1) (Err Half) (cond (list_any is_ascii_uppercase w) (Err Digit) (lifted (decode_of w))))
+read w even e u = rw (even, u) (pairs_read w 0 e even)

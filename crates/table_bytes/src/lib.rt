@@ -3,7 +3,7 @@
 // has.
 #![tactic(auto)]
 
-ghost use Rattle.std.specs.Prelude.{◌≡◌, ◌⊎◌, IfOk, IfErr};
+ghost use Rattle.std.specs.Prelude.{◌≡◌, ◌⊎◌, IfOk, IfErr, IsOk};
 ghost use Rattle.std.specs.Char.{is_ascii_uppercase};
 ghost use Rattle.std.specs.List.{list_any};
 ghost use Rattle.table_bytes.specs.Written.{bytes_of, is_other};
@@ -18,10 +18,10 @@ pub mod fault;
 const NO_BYTES: &str = "-";
 
 // The bytes that a word writes.
-#[tactic(auto, using(crate::proofs::Refused::refused))]
+#[tactic(auto, using(crate::proofs::Refused::refused, crate::proofs::Refused::read))]
 pub fn table_bytes(heap: Global, word: &str) -> Result<Vec<u8>, TableFault>
     ensures ok { IfOk result (λ v. bytes_of word.now ≡ Ok v.items) }
-    ensures err { IfErr result (λ e. (e ≡ Memory) ⊎ (bytes_of word.now ≡ Err e)) }
+    ensures err { IfErr result (λ e. ((e ≡ Memory) × IsOk (bytes_of word.now)) ⊎ (bytes_of word.now ≡ Err e)) }
 {
     if word == NO_BYTES {
         return Ok(Vec::new(heap));
